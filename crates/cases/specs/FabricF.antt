@@ -1,0 +1,108 @@
+-- Fabric F, and the cases F1 to F12 as one table. A case is what is put in and what must come out of the whole answer: the
+-- refusals, the record rules and the route.
+use mathlib.Core.Path.{_≡_}
+use mathlib.Core.Bool.{Bool, true, false}
+use mathlib.Core.List.{List, [], _∷_, _++_}
+use Prim.Native.Nat.{ℕ, zero, suc, _+_, _*_, _/_, _%_}
+use lib.ListN.{replicate}
+use Rattle.rules.specs.declared.Letter.the-variants.{Source, Translation, Egress, Validation}
+use Rattle.rules.specs.declared.Outcome.{Outcome}
+use Rattle.rules.specs.declared.Outcome.the-variants.{Delivered, Host, Unclaimed, Undefined, Violated}
+use Rattle.rules.specs.Route.{Hop, hop, Trip}
+use Rattle.rules.specs.Refuse.{Result, answered, result}
+
+-- x in n bytes, little-endian
+unfoldable pub bytes : ℕ → ℕ → List ℕ
+bytes zero x = []
+bytes (suc n) x = x % 256 ∷ bytes n (x / 256)
+
+-- range 0, and five closed ranges
+unfoldable pub ranges : ℕ → ℕ → List ℕ
+ranges f l = bytes 8 f ++ bytes 8 l ++ shut ++ shut ++ shut ++ shut ++ shut
+  where
+    shut : List ℕ
+    shut = bytes 8 1 ++ bytes 8 0
+
+-- a port: kind, Port Number, parent, own bus, byte 5, secondary, subordinate; Capability 087Fh, control, vector byte 0; range 0
+unfoldable pub port : ℕ → ℕ → ℕ → ℕ → ℕ → ℕ → ℕ → ℕ → ℕ → ℕ → ℕ → List ℕ
+port kind number parent own place secondary subordinate control vector f l =
+    (kind ∷ number ∷ bytes 2 parent) ++ (own ∷ place ∷ secondary ∷ subordinate ∷ bytes 2 0x087F) ++ bytes 2 control
+    ++ bytes 4 0 ++ (vector ∷ replicate 31 0) ++ ranges f l
+
+-- a node that is no port: kind, parent, own bus, secondary, subordinate; range 0
+unfoldable pub node : ℕ → ℕ → ℕ → ℕ → ℕ → ℕ → ℕ → List ℕ
+node kind parent own secondary subordinate f l =
+    (kind ∷ 0 ∷ bytes 2 parent) ++ (own ∷ 0 ∷ secondary ∷ subordinate ∷ replicate 40 0) ++ ranges f l
+
+-- the snapshot, with these flags, this control and this vector byte on all three ports, taken at 0 and good until 0
+unfoldable pub fabricF : ℕ → ℕ → ℕ → List ℕ
+fabricF flags control vector =
+    (0x41 ∷ 0x43 ∷ 0x53 ∷ flags ∷ bytes 2 1) ++ bytes 2 6 ++ bytes 8 0 ++ bytes 8 0
+    ++ port 1 0 0xFFFF 0 8 1 4 control vector 0x80000000 0x803FFFFF
+    ++ node 2 0 1 2 4 0x80000000 0x803FFFFF
+    ++ port 3 1 1 2 0 3 3 control vector 0x80000000 0x800FFFFF
+    ++ port 3 2 1 2 8 4 4 control vector 0x80100000 0x801FFFFF
+    ++ node 4 2 3 0 0 0x80000000 0x80000FFF
+    ++ node 4 3 4 0 0 0x80100000 0x80100FFF
+
+-- a request of 1 doubleword with a 12-byte header: byte 0, address type, requester's bus, address
+unfoldable pub request : ℕ → ℕ → ℕ → ℕ → List ℕ
+request form translation bus address =
+    form ∷ 0 ∷ 4 * translation ∷ 1 ∷ bus ∷ 0 ∷ 0 ∷ 0
+    ∷ address / 0x1000000 % 256 ∷ address / 0x10000 % 256 ∷ address / 0x100 % 256 ∷ address % 256 ∷ []
+
+abbrev pub read : ℕ
+read = 0x00
+
+abbrev pub write : ℕ
+write = 0x40
+
+pub record Case : Type 0 where
+  pub snapshot : List ℕ
+  pub header : List ℕ
+  pub wanted : Trip
+
+abbrev pub ends : Outcome → List Hop → Trip
+ends end hops = record { end = end; hops = hops }
+
+-- unless said: flags 02h, and a write from requester 0300h to 80100000h, AT 0
+unfoldable pub plain : List ℕ
+plain = request write 0 3 0x80100000
+
+abbrev pub set : ℕ → ℕ → List ℕ
+set control vector = fabricF 2 control vector
+
+-- the ways of F1 and of F2
+unfoldable pub directly : Trip
+directly = ends (Delivered 5 false) (hop 2 4 ∷ hop 3 6 ∷ hop 5 7 ∷ [])
+
+unfoldable pub byTheTop : Trip
+byTheTop = ends (Delivered 5 true) (hop 2 2 ∷ hop 0 5 ∷ hop 0 6 ∷ hop 3 6 ∷ hop 5 7 ∷ [])
+
+abbrev pub case : List ℕ → List ℕ → Trip → Case
+case s h r = record { snapshot = s; header = h; wanted = r }
+
+unfoldable pub table : List Case
+table =
+    case (set 0x00 0) plain directly                                                                                         -- F1
+    ∷ case (set 0x17 0) plain byTheTop                                                                                       -- F2
+    ∷ case (fabricF 0 0x17 0) plain (ends (Violated Validation 0 false) (hop 2 2 ∷ hop 0 7 ∷ []))                            -- F3
+    ∷ case (set 0x07 0) plain (ends (Undefined 0) (hop 2 2 ∷ hop 0 7 ∷ []))                                                  -- F4
+    ∷ case (set 0x37 0) plain directly                                                                                       -- F5
+    ∷ case (set 0x37 4) plain byTheTop                                                                                       -- F6
+    ∷ case (set 0x20 4) (request read 0 3 0x80100000) (ends (Violated Egress 2 true) (hop 2 7 ∷ []))                         -- F7
+    ∷ case (set 0x17 0) (request write 2 4 0x80100000) (ends (Violated Source 2 false) (hop 2 7 ∷ []))                       -- F8
+    ∷ case (set 0x17 0) (request write 2 3 0x80100000) (ends (Violated Translation 2 false) (hop 2 7 ∷ []))                  -- F9
+    ∷ case (set 0x55 0) (request write 2 3 0x80100000) directly                                                              -- F10
+    ∷ case (set 0x00 0) (request write 0 3 0x80300000) (ends (Unclaimed 1) (hop 2 1 ∷ hop 1 7 ∷ []))                         -- F11
+    ∷ case (set 0x00 0) (request write 0 3 0x1000) (ends Host (hop 2 1 ∷ hop 0 1 ∷ hop 0xFFFF 7 ∷ []))                       -- F12
+    ∷ []
+
+-- the answer to the case's query from origin 4 at time 0, with room for 257 hops
+abbrev pub given : Case → Result Trip
+given c = result (c .snapshot) 0 4 (c .header) 1028
+
+-- each case of the list comes out as wanted
+abbrev pub Every : List Case → Type 0
+Every [] = Unit {0}
+Every (c ∷ l) = (given c ≡ answered (c .wanted)) × Every l

@@ -1,0 +1,10 @@
+pub mod Below
+pub mod Bytes
+pub mod Snapshot
+pub mod Records
+pub mod Fabric
+pub mod Tlp
+pub mod Cover
+pub mod Decide
+pub mod Route
+pub mod Refuse
