@@ -84,18 +84,18 @@ case s h r = record { snapshot = s; header = h; wanted = r }
 
 unfoldable pub table : List Case
 table =
-    case (set 0x00 0) plain directly                                                                                         -- F1
-    ∷ case (set 0x17 0) plain byTheTop                                                                                       -- F2
-    ∷ case (fabricF 0 0x17 0) plain (ends (Violated Validation 0 false) (hop 2 2 ∷ hop 0 7 ∷ []))                            -- F3
-    ∷ case (set 0x07 0) plain (ends (Undefined 0) (hop 2 2 ∷ hop 0 7 ∷ []))                                                  -- F4
-    ∷ case (set 0x37 0) plain directly                                                                                       -- F5
-    ∷ case (set 0x37 4) plain byTheTop                                                                                       -- F6
-    ∷ case (set 0x20 4) (request read 0 3 0x80100000) (ends (Violated Egress 2 true) (hop 2 7 ∷ []))                         -- F7
-    ∷ case (set 0x17 0) (request write 2 4 0x80100000) (ends (Violated Source 2 false) (hop 2 7 ∷ []))                       -- F8
-    ∷ case (set 0x17 0) (request write 2 3 0x80100000) (ends (Violated Translation 2 false) (hop 2 7 ∷ []))                  -- F9
-    ∷ case (set 0x55 0) (request write 2 3 0x80100000) directly                                                              -- F10
-    ∷ case (set 0x00 0) (request write 0 3 0x80300000) (ends (Unclaimed 1) (hop 2 1 ∷ hop 1 7 ∷ []))                         -- F11
-    ∷ case (set 0x00 0) (request write 0 3 0x1000) (ends Host (hop 2 1 ∷ hop 0 1 ∷ hop 0xFFFF 7 ∷ []))                       -- F12
+    case (set 0x00 0) plain directly  -- F1
+    ∷ case (set 0x17 0) plain byTheTop  -- F2
+    ∷ case (fabricF 0 0x17 0) plain (ends (Violated Validation 0 false) (hop 2 2 ∷ hop 0 7 ∷ []))  -- F3
+    ∷ case (set 0x07 0) plain (ends (Undefined 0) (hop 2 2 ∷ hop 0 7 ∷ []))  -- F4
+    ∷ case (set 0x37 0) plain directly  -- F5
+    ∷ case (set 0x37 4) plain byTheTop  -- F6
+    ∷ case (set 0x20 4) (request read 0 3 0x80100000) (ends (Violated Egress 2 true) (hop 2 7 ∷ []))  -- F7
+    ∷ case (set 0x17 0) (request write 2 4 0x80100000) (ends (Violated Source 2 false) (hop 2 7 ∷ []))  -- F8
+    ∷ case (set 0x17 0) (request write 2 3 0x80100000) (ends (Violated Translation 2 false) (hop 2 7 ∷ []))  -- F9
+    ∷ case (set 0x55 0) (request write 2 3 0x80100000) directly  -- F10
+    ∷ case (set 0x00 0) (request write 0 3 0x80300000) (ends (Unclaimed 1) (hop 2 1 ∷ hop 1 7 ∷ []))  -- F11
+    ∷ case (set 0x00 0) (request write 0 3 0x1000) (ends Host (hop 2 1 ∷ hop 0 1 ∷ hop 0xFFFF 7 ∷ []))  -- F12
     ∷ []
 
 -- the answer to the case's query from origin 4 at time 0, with room for 257 hops

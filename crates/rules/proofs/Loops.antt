@@ -111,12 +111,12 @@ find-in f zero i j h = let z : _≡_ {A = ℕ} 0 1 = cc in absurd (omega arith)
 find-in f (suc k) i j h =
     either (f i)
     (λ p.
-        let e : At i ≡ At j = sym (rw p) ∙ h in
-        let same : i ≡ j = cc in record { from = omega arith; below = omega arith; passes = subst (λ (m : ℕ). f m ≡ true) same p })
+    let e : At i ≡ At j = sym (rw p) ∙ h in
+    let same : i ≡ j = cc in record { from = omega arith; below = omega arith; passes = subst (λ (m : ℕ). f m ≡ true) same p })
     (λ q.
-        let e : findFrom f k (suc i) ≡ At j = sym (rw q) ∙ h in
-        let r : Hit f k (suc i) j = find-in f k (suc i) j e in
-        record { from = omega arith; below = omega arith; passes = r .passes })
+    let e : findFrom f k (suc i) ≡ At j = sym (rw q) ∙ h in
+    let r : Hit f k (suc i) j = find-in f k (suc i) j e in
+    record { from = omega arith; below = omega arith; passes = r .passes })
 
 -- where nothing is found nothing passes
 pub find-none : (f : ℕ → Bool) (k i : ℕ) → findFrom f k i ≡ Nothing → (j : ℕ) → i ≤ j → j < i + k → f j ≡ false

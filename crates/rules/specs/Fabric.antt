@@ -46,26 +46,28 @@ holds s i a = anyBelow 6 (inRange s i a)
 unfoldable pub shapeOf : List ℕ → Shape
 shapeOf s =
     record {
-        count = count s;
-        kind = kind s;
-        portNumber = portNumber s;
-        parent = parent s;
-        ownBus = ownBus s;
-        place = place s;
-        secondary = secondary s;
-        subordinate = subordinate s;
-        holds = holds s;
-        rootsReach = rootsReach s;
-        reflects = λ t. validationReflects s }
+      count = count s;
+      kind = kind s;
+      portNumber = portNumber s;
+      parent = parent s;
+      ownBus = ownBus s;
+      place = place s;
+      secondary = secondary s;
+      subordinate = subordinate s;
+      holds = holds s;
+      rootsReach = rootsReach s;
+      reflects = λ t. validationReflects s;
+    }
 
 unfoldable pub settingOf : List ℕ → Setting
 settingOf s =
     record {
-        v = λ i. bit bitV (control s i);
-        b = λ i. bit bitB (control s i);
-        r = λ i. bit bitR (control s i);
-        c = λ i. bit bitC (control s i);
-        u = λ i. bit bitU (control s i);
-        e = λ i. bit bitE (control s i);
-        t = λ i. bit bitT (control s i);
-        vector = vectorBit s }
+      v = λ i. bit bitV (control s i);
+      b = λ i. bit bitB (control s i);
+      r = λ i. bit bitR (control s i);
+      c = λ i. bit bitC (control s i);
+      u = λ i. bit bitU (control s i);
+      e = λ i. bit bitE (control s i);
+      t = λ i. bit bitT (control s i);
+      vector = vectorBit s;
+    }

@@ -67,9 +67,10 @@ targetOf h = cond (isCompletion (byte h 0)) (Id (record { 0 = byte h 8 }) (byte 
 unfoldable pub tlpOf : List ℕ → Tlp
 tlpOf h =
     record {
-        request = isRequest (byte h 0);
-        owed = isRead (byte h 0);
-        straight = relaxed h;
-        translation = addressType h;
-        bus = record { 0 = requesterBus h };
-        target = targetOf h }
+      request = isRequest (byte h 0);
+      owed = isRead (byte h 0);
+      straight = relaxed h;
+      translation = addressType h;
+      bus = record { 0 = requesterBus h };
+      target = targetOf h;
+    }

@@ -3,12 +3,15 @@
 
 pub mod answer;
 pub mod bytes;
+pub mod damage;
 pub mod fabric;
 pub mod faults;
 pub mod header;
 pub mod program;
+pub mod queries;
 pub mod random;
 pub mod routing;
+pub mod shapes;
 pub mod snapshot;
 
 use answer::{Action, Hop, Outcome, Refusal, COMPLEX};
