@@ -75,3 +75,10 @@ implies {a} h n = either a (λ p. clash (h p) n) (λ q. q)
 pub same-test : (a b : Bool) → (a ≡ true → b ≡ true) → (b ≡ true → a ≡ true) → a ≡ b
 same-test true b f g = sym (f refl)
 same-test false b f g = sym (implies g refl)
+
+-- an `if` whose else is false is a conjunction
+pub then-and : {x a b r : Bool} → x ≡ a → x ≡ true → r ≡ b → r ≡ (a && b)
+then-and {x} {a} {b} {r} e t h = h ∙ sym (ap (λ (z : Bool). z && b) (sym e ∙ t))
+
+pub else-and : {x a : Bool} (b : Bool) → x ≡ a → x ≡ false → false ≡ (a && b)
+else-and b e f = sym (ap (λ (z : Bool). z && b) (sym e ∙ f))

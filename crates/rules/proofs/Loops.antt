@@ -138,3 +138,10 @@ unfolding findFrom
 find-same f g zero i h = refl
 find-same f g (suc k) i h =
     rw (h i (omega arith) (omega arith), find-same f g k (suc i) (λ j a b. h j (omega arith) (omega arith)))
+
+-- a search over n numbers, where n is m, starts as one over m
+pub find-all : (f : ℕ → Bool) (n m : ℕ) → n ≡ m → findFrom f (n - 0) 0 ≡ findFrom f m 0
+find-all f n m e = let z : n - 0 ≡ m = omega arith in ap (λ (k : ℕ). findFrom f k 0) z
+
+pub find-after : (f : ℕ → Bool) (n m i : ℕ) → n ≡ m → findFrom f (n - i) i ≡ findFrom f (m - i) i
+find-after f n m i e = ap (λ (k : ℕ). findFrom f (k - i) i) e

@@ -61,10 +61,7 @@ impl Outcome {
             Outcome::Undefined => (4, 0, false),
             Outcome::Violation { letter, abort } => (5, letter.code(), abort),
         };
-        kind | letter << 8
-            | u64::from(node) << 16
-            | u64::from(hops) << 32
-            | u64::from(abort) << 48
+        kind | letter << 8 | u64::from(node) << 16 | u64::from(hops) << 32 | u64::from(abort) << 48
     }
 }
 
@@ -110,7 +107,7 @@ impl Word {
         usize::from((self.0 >> 32) as u16)
     }
 
-    /// Name of the outcome, with the node's place in the printed line given by `node`.
+    /// The outcome as `acsroute` prints it, up to the hops.
     pub fn outcome_text(self) -> String {
         let node = self.node();
         match self.byte(0) {

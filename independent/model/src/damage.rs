@@ -54,6 +54,13 @@ const BREAKS: &[Break] = &[
     control_high,
 ];
 
+pub const BREAK_COUNT: usize = BREAKS.len();
+
+/// Breaks the rule of that number, below `BREAK_COUNT`.
+pub fn break_rule(random: &mut Random, fabric: &mut Fabric, number: usize) -> Option<()> {
+    BREAKS[number](random, fabric)
+}
+
 /// A snapshot with something wrong, most of the time.
 pub fn damaged(random: &mut Random, fabric: &Fabric) -> Vec<u8> {
     let mut fabric = fabric.clone();
@@ -87,7 +94,7 @@ pub fn random_time(random: &mut Random, fabric: &Fabric) -> u64 {
         1 => until,
         2 => taken.wrapping_sub(1),
         3 => until.wrapping_add(1),
-        4 => random.next(),
+        4 => random.word(),
         _ => inside(random, fabric),
     }
 }
@@ -140,7 +147,11 @@ fn stray_head(random: &mut Random, bytes: &mut [u8]) {
 fn wrong_length(random: &mut Random, bytes: &mut Vec<u8>) {
     if random.coin() {
         let length = random.pick(&[0, 3, 23, 24, bytes.len() - 1]);
-        let length = if random.coin() { random.index(bytes.len()) } else { length };
+        let length = if random.coin() {
+            random.index(bytes.len())
+        } else {
+            length
+        };
         bytes.truncate(length);
     } else {
         let more = random.pick(&[1, 2, 144, 143]);
@@ -180,7 +191,8 @@ fn siblings(random: &mut Random, fabric: &Fabric) -> Option<(u16, Record)> {
 
 /// A random record that has a parent, with the parent.
 fn child(random: &mut Random, fabric: &Fabric) -> Option<(u16, Record)> {
-    let children = fabric.matching(|record| record.kind != 1);
+    let count = fabric.records.len();
+    let children = fabric.matching(|record| record.kind != 1 && usize::from(record.parent) < count);
     if children.is_empty() {
         return None;
     }
@@ -225,7 +237,10 @@ fn parent_of_wrong_kind(random: &mut Random, fabric: &mut Fabric) -> Option<()> 
     if parents.is_empty() || random.coin() {
         // A kind 3 under a port that has no child yet.
         let used: Vec<u16> = fabric.records.iter().map(|record| record.parent).collect();
-        let free: Vec<u16> = ports.into_iter().filter(|port| !used.contains(port)).collect();
+        let free: Vec<u16> = ports
+            .into_iter()
+            .filter(|port| !used.contains(port))
+            .collect();
         if free.is_empty() {
             return None;
         }
@@ -288,7 +303,9 @@ fn endpoint_buses(random: &mut Random, fabric: &mut Fabric) -> Option<()> {
 }
 
 fn root_own_bus(random: &mut Random, fabric: &mut Fabric) -> Option<()> {
-    let record = some(random, fabric, |record| record.kind == 1 && record.secondary > 1)?;
+    let record = some(random, fabric, |record| {
+        record.kind == 1 && record.secondary > 1
+    })?;
     record.own_bus = random.between(1, u64::from(record.secondary) - 1) as u8;
     Some(())
 }
@@ -370,7 +387,11 @@ fn bridge_range_open(random: &mut Random, fabric: &mut Fabric) -> Option<()> {
     let record = some(random, fabric, Record::is_bridge)?;
     let window = record.ranges[1];
     record.ranges[1] = CLOSED;
-    record.ranges[number] = if window == CLOSED { (0, MIB - 1) } else { window };
+    record.ranges[number] = if window == CLOSED {
+        (0, MIB - 1)
+    } else {
+        window
+    };
     Some(())
 }
 
@@ -380,7 +401,9 @@ fn open_bridge(record: &Record) -> bool {
 
 /// One of the open ranges of a record, which has one.
 fn open_number(random: &mut Random, record: &Record) -> usize {
-    let open: Vec<usize> = (0..6).filter(|&number| record.ranges[number] != CLOSED).collect();
+    let open: Vec<usize> = (0..6)
+        .filter(|&number| record.ranges[number] != CLOSED)
+        .collect();
     random.pick(&open)
 }
 
@@ -388,7 +411,8 @@ fn window_first(random: &mut Random, fabric: &mut Fabric) -> Option<()> {
     let step = random.pick(&[1, 0x1000, 0x1_0000, 0x8_0000]);
     let index = some_open(random, fabric, open_bridge)?;
     let number = open_number(random, fabric.record(index));
-    fabric.record_mut(index).ranges[number].0 += step;
+    let first = &mut fabric.record_mut(index).ranges[number].0;
+    *first = first.wrapping_add(step);
     Some(())
 }
 
@@ -396,15 +420,12 @@ fn window_last(random: &mut Random, fabric: &mut Fabric) -> Option<()> {
     let step = random.pick(&[1, 0x1000, 0x1_0000, 0x8_0000]);
     let index = some_open(random, fabric, open_bridge)?;
     let number = open_number(random, fabric.record(index));
-    fabric.record_mut(index).ranges[number].1 -= step;
+    let last = &mut fabric.record_mut(index).ranges[number].1;
+    *last = last.wrapping_sub(step);
     Some(())
 }
 
-fn some_open(
-    random: &mut Random,
-    fabric: &Fabric,
-    test: impl Fn(&Record) -> bool,
-) -> Option<u16> {
+fn some_open(random: &mut Random, fabric: &Fabric, test: impl Fn(&Record) -> bool) -> Option<u16> {
     let list = fabric.matching(test);
     if list.is_empty() {
         None
@@ -414,7 +435,14 @@ fn some_open(
 }
 
 fn empty_pair(random: &mut Random, fabric: &mut Fabric) -> Option<()> {
-    let pair = random.pick(&[(2, 1), (1, 0), (0x10_0000, 0xF_FFFF), (u64::MAX, 0), (2, 0), (128, 127)]);
+    let pair = random.pick(&[
+        (2, 1),
+        (1, 0),
+        (0x10_0000, 0xF_FFFF),
+        (u64::MAX, 0),
+        (2, 0),
+        (128, 127),
+    ]);
     let number = random.index(6);
     some(random, fabric, |_| true)?.ranges[number] = pair;
     Some(())
@@ -460,7 +488,11 @@ fn length_whole(random: &mut Random, fabric: &mut Fabric) -> Option<()> {
     record.ranges = [CLOSED; 6];
     record.ranges[random.index(6)] = range;
     let mut above = record.parent;
-    while let Some(bridge) = fabric.records.get_mut(usize::from(above)) {
+    // Another break may have closed a circle, so the way up is bounded.
+    for _ in 0..fabric.records.len() {
+        let Some(bridge) = fabric.records.get_mut(usize::from(above)) else {
+            break;
+        };
         bridge.ranges = [CLOSED; 6];
         bridge.ranges[1] = (0, u64::MAX);
         above = bridge.parent;
@@ -473,7 +505,7 @@ fn misaligned(random: &mut Random, fabric: &mut Fabric) -> Option<()> {
     let record = fabric.record_mut(index);
     let number = open_number(random, record);
     let (first, last) = record.ranges[number];
-    let step = random.pick(&[1, 4, 64, (last - first) / 2 + 1]);
+    let step = random.pick(&[1, 4, 64, last.wrapping_sub(first) / 2 + 1]);
     let shifted = (first.checked_add(step)?, last.checked_add(step)?);
     record.ranges = [CLOSED; 6];
     record.ranges[number] = shifted;
@@ -486,7 +518,11 @@ fn own_overlap(random: &mut Random, fabric: &mut Fabric) -> Option<()> {
     })?;
     let record = fabric.record_mut(index);
     let number = open_number(random, record);
-    let other = if record.is_bridge() { 1 - number.min(1) } else { (number + 1 + random.index(5)) % 6 };
+    let other = if record.is_bridge() {
+        1 - number.min(1)
+    } else {
+        (number + 1 + random.index(5)) % 6
+    };
     record.ranges[other] = record.ranges[number];
     Some(())
 }
@@ -515,7 +551,7 @@ fn outside_window(random: &mut Random, fabric: &mut Fabric) -> Option<()> {
     let first = last.checked_add(1)?;
     let record = fabric.record_mut(index);
     record.ranges = [CLOSED; 6];
-    record.ranges[1] = (first, first + (MIB - 1));
+    record.ranges[1] = (first, first.wrapping_add(MIB - 1));
     Some(())
 }
 
@@ -527,11 +563,19 @@ fn over_the_edge(random: &mut Random, fabric: &mut Fabric) -> Option<()> {
     if window == CLOSED {
         return None;
     }
-    let length = (last - first).checked_add(1)?.checked_next_power_of_two()?.checked_mul(2)?;
+    let length = last
+        .wrapping_sub(first)
+        .checked_add(1)?
+        .checked_next_power_of_two()?
+        .checked_mul(2)?;
     let range = (first & !(length - 1), first | (length - 1));
     let record = fabric.record_mut(index);
     record.ranges = [CLOSED; 6];
-    record.ranges[1] = if record.is_bridge() { (first, last.checked_add(MIB)?) } else { range };
+    record.ranges[1] = if record.is_bridge() {
+        (first, last.checked_add(MIB)?)
+    } else {
+        range
+    };
     Some(())
 }
 
@@ -544,8 +588,13 @@ fn two_windows(random: &mut Random, fabric: &mut Fabric) -> Option<()> {
         return None;
     }
     // The edge between an even and an odd unit, so that an endpoint's range fits.
-    let edge = if (last + 1) / MIB % 2 == 1 { last + 1 } else { last.checked_sub(MIB - 1)? };
-    if edge <= first {
+    let end = last.checked_add(1)?;
+    let edge = if end / MIB % 2 == 1 {
+        end
+    } else {
+        end.checked_sub(MIB)?
+    };
+    if edge <= first || !(MIB..=1 << 32).contains(&edge) {
         return None;
     }
     let parent_index = fabric.record(index).parent;

@@ -105,7 +105,14 @@ pub struct Fabric {
 
 impl Fabric {
     pub fn new(flags: u8, records: Vec<Record>) -> Fabric {
-        Fabric { mark: *b"ACS", flags, version: 1, taken: 1000, until: 2000, records }
+        Fabric {
+            mark: *b"ACS",
+            flags,
+            version: 1,
+            taken: 1000,
+            until: 2000,
+            records,
+        }
     }
 
     pub fn bytes(&self) -> Vec<u8> {
@@ -129,7 +136,9 @@ impl Fabric {
 
     pub fn matching(&self, test: impl Fn(&Record) -> bool) -> Vec<u16> {
         let indexes = 0..self.records.len() as u16;
-        indexes.filter(|&index| test(&self.records[usize::from(index)])).collect()
+        indexes
+            .filter(|&index| test(&self.records[usize::from(index)]))
+            .collect()
     }
 
     pub fn record(&self, index: u16) -> &Record {
@@ -152,7 +161,9 @@ pub fn fabric_f(flags: u8, control: u16) -> Fabric {
                 .numbers(0, 8)
                 .acs(capability, control)
                 .range(0, 0x8000_0000, 0x803F_FFFF),
-            Record::new(2, 0).buses(1, 2, 4).range(0, 0x8000_0000, 0x803F_FFFF),
+            Record::new(2, 0)
+                .buses(1, 2, 4)
+                .range(0, 0x8000_0000, 0x803F_FFFF),
             Record::new(3, 1)
                 .buses(2, 3, 3)
                 .numbers(1, 0)
@@ -163,8 +174,12 @@ pub fn fabric_f(flags: u8, control: u16) -> Fabric {
                 .numbers(2, 8)
                 .acs(capability, control)
                 .range(0, 0x8010_0000, 0x801F_FFFF),
-            Record::new(4, 2).buses(3, 0, 0).range(0, 0x8000_0000, 0x8000_0FFF),
-            Record::new(4, 3).buses(4, 0, 0).range(0, 0x8010_0000, 0x8010_0FFF),
+            Record::new(4, 2)
+                .buses(3, 0, 0)
+                .range(0, 0x8000_0000, 0x8000_0FFF),
+            Record::new(4, 3)
+                .buses(4, 0, 0)
+                .range(0, 0x8010_0000, 0x8010_0FFF),
         ],
     )
 }
@@ -178,7 +193,12 @@ pub const DATA_COMPLETION: u8 = 0x4A;
 
 /// A memory request; its kind decides how long the header is.
 pub fn request(kind: u8, requester: u16, at: u8, address: u64, doublewords: u16) -> Vec<u8> {
-    let mut header = vec![kind, 0, at << 2 | (doublewords >> 8 & 3) as u8, doublewords as u8];
+    let mut header = vec![
+        kind,
+        0,
+        at << 2 | (doublewords >> 8 & 3) as u8,
+        doublewords as u8,
+    ];
     header.extend_from_slice(&requester.to_be_bytes());
     header.extend_from_slice(&[0, 0x0F]);
     if kind & 0x20 == 0 {

@@ -16,7 +16,7 @@ pub struct Request {
     pub requester_bus: u8,
     pub address_type: u8,
     pub address: u64,
-    /// In bytes.
+    /// In bytes. Covering looks at the first address only, so only a fault asks for it.
     pub length: u64,
     /// Whether the header has 16 bytes. Only a fault asks for it.
     pub long: bool,

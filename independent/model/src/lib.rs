@@ -3,6 +3,8 @@
 
 pub mod answer;
 pub mod bytes;
+pub mod cases;
+pub mod corpus;
 pub mod damage;
 pub mod fabric;
 pub mod faults;
@@ -91,7 +93,9 @@ fn test_early<R: Rules>(
     if rules.wrong(Fault::HeaderBeforeRecords) && header::read(rules, header).is_none() {
         return Err(Refusal::new(6, 0));
     }
-    let mut kinds = bytes[snapshot::HEAD..].chunks_exact(snapshot::RECORD).map(|record| record[0]);
+    let mut kinds = bytes[snapshot::HEAD..]
+        .chunks_exact(snapshot::RECORD)
+        .map(|record| record[0]);
     let endpoint = origin == COMPLEX || kinds.nth(usize::from(origin)) == Some(4);
     if rules.wrong(Fault::OriginBeforeRecords) && !endpoint {
         return Err(Refusal::new(5, 0));
@@ -150,6 +154,10 @@ fn write_hops<R: Rules>(rules: R, hops: &[Hop], buffer: &mut [u8]) -> Result<(),
 fn hop_bytes<R: Rules>(rules: R, hop: Hop) -> [u8; 4] {
     let [low, high] = hop.index.to_le_bytes();
     let [a, b] = rules.choose(Fault::HopBigEndian, [low, high], [high, low]);
-    let last = rules.choose(Fault::HopLastByte, 0, hop.action as u8 / Action::Direct as u8);
+    let last = rules.choose(
+        Fault::HopLastByte,
+        0,
+        hop.action as u8 / Action::Direct as u8,
+    );
     [a, b, hop.action as u8, last]
 }

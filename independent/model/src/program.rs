@@ -2,10 +2,9 @@
 
 use crate::answer::Word;
 use crate::bytes::{le16, le64};
+use crate::cases::ROOM;
 use crate::faults::{Right, Rules};
 use crate::route_by;
-
-const ROOM: usize = 4 * 257;
 
 /// The fields of an `acsroute` input.
 pub struct Input<'a> {
@@ -24,7 +23,12 @@ impl<'a> Input<'a> {
         if header.len() != usize::from(fields[10]) {
             return None;
         }
-        Some(Input { snapshot, now: le64(fields, 0), origin: le16(fields, 8), header })
+        Some(Input {
+            snapshot,
+            now: le64(fields, 0),
+            origin: le16(fields, 8),
+            header,
+        })
     }
 }
 

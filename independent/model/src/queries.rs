@@ -1,7 +1,7 @@
 //! Random origins and headers for a fabric.
 
-use crate::fabric::{Fabric, CLOSED, COMPLETION, DATA_COMPLETION};
 use crate::fabric::{completion, request, LONG_READ, LONG_WRITE, READ, WRITE};
+use crate::fabric::{Fabric, Record, CLOSED, COMPLETION, DATA_COMPLETION};
 use crate::random::Random;
 
 pub struct Query {
@@ -12,7 +12,7 @@ pub struct Query {
 pub fn random_query(random: &mut Random, fabric: &Fabric) -> Query {
     let origin = random_origin(random, fabric);
     let mut header = if random.below(10) < 3 {
-        random_completion(random, fabric)
+        random_completion(random, fabric, origin)
     } else {
         random_request(random, fabric, origin)
     };
@@ -35,7 +35,7 @@ fn random_origin(random: &mut Random, fabric: &Fabric) -> u16 {
 }
 
 fn random_request(random: &mut Random, fabric: &Fabric, origin: u16) -> Vec<u8> {
-    let address = random_address(random, fabric);
+    let address = random_address(random, fabric, origin);
     let kinds = if address < 1 << 32 && random.coin() {
         [READ, WRITE]
     } else {
@@ -56,8 +56,8 @@ fn random_request(random: &mut Random, fabric: &Fabric, origin: u16) -> Vec<u8> 
     header
 }
 
-fn random_completion(random: &mut Random, fabric: &Fabric) -> Vec<u8> {
-    let bus = random_bus(random, fabric);
+fn random_completion(random: &mut Random, fabric: &Fabric, origin: u16) -> Vec<u8> {
+    let bus = random_bus(random, fabric, origin);
     let function = if random.one_in(6) { random.byte() } else { 0 };
     let kind = random.pick(&[COMPLETION, DATA_COMPLETION]);
     let mut header = completion(kind, u16::from_be_bytes([bus, function]), random.coin());
@@ -69,9 +69,24 @@ fn random_completion(random: &mut Random, fabric: &Fabric) -> Vec<u8> {
     header
 }
 
-/// A bus to send a completion to: often an endpoint's.
-fn random_bus(random: &mut Random, fabric: &Fabric) -> u8 {
+/// Endpoints to aim at: mostly others than the origin, if there are others.
+fn targets(random: &mut Random, fabric: &Fabric, origin: u16) -> Vec<u16> {
     let endpoints = fabric.of_kind(4);
+    let others: Vec<u16> = endpoints
+        .iter()
+        .copied()
+        .filter(|&other| other != origin)
+        .collect();
+    if others.is_empty() || random.one_in(4) {
+        endpoints
+    } else {
+        others
+    }
+}
+
+/// A bus to send a completion to: often an endpoint's.
+fn random_bus(random: &mut Random, fabric: &Fabric, origin: u16) -> u8 {
+    let endpoints = targets(random, fabric, origin);
     if !endpoints.is_empty() && random.below(10) < 6 {
         return fabric.record(random.pick(&endpoints)).own_bus;
     }
@@ -84,26 +99,29 @@ fn random_bus(random: &mut Random, fabric: &Fabric) -> u8 {
 }
 
 fn random_requester(random: &mut Random, fabric: &Fabric, origin: u16) -> u16 {
-    let own = fabric.records.get(usize::from(origin)).map_or(0, |record| record.own_bus);
+    let own = fabric
+        .records
+        .get(usize::from(origin))
+        .map_or(0, |record| record.own_bus);
     let bus = match random.below(10) {
         0 => random.byte(),
-        1 | 2 => random_bus(random, fabric),
+        1 | 2 => random_bus(random, fabric, origin),
         _ => own,
     };
     u16::from_be_bytes([bus, random.pick(&[0, 0, 8, bus])])
 }
 
 /// An address in some range, at its edges, or anywhere. It may not be aligned.
-fn random_address(random: &mut Random, fabric: &Fabric) -> u64 {
-    let Some((first, last)) = random_range(random, fabric) else {
-        return random.next() >> random.below(64);
+fn random_address(random: &mut Random, fabric: &Fabric, origin: u16) -> u64 {
+    let Some((first, last)) = random_range(random, fabric, origin) else {
+        return random.word() >> random.below(64);
     };
     match random.below(12) {
         0 => first,
         1 => first.wrapping_sub(4),
         2 => last & !3,
         3 => last.wrapping_add(1),
-        4 => random.next() >> random.below(64),
+        4 => random.word() >> random.below(64),
         5 => last.wrapping_sub(random.below(256)) & !3,
         6 => first.saturating_add(0xFFC).min(last & !3),
         _ => random.between(first, last) & !3,
@@ -111,18 +129,23 @@ fn random_address(random: &mut Random, fabric: &Fabric) -> u64 {
 }
 
 /// An open range of some node, of an endpoint more often than of a bridge.
-fn random_range(random: &mut Random, fabric: &Fabric) -> Option<(u64, u64)> {
-    let endpoints = fabric.matching(|record| {
-        record.kind == 4 && record.ranges.iter().any(|&range| range != CLOSED)
-    });
-    let nodes = fabric.matching(|record| record.ranges.iter().any(|&range| range != CLOSED));
-    let list = if endpoints.is_empty() || random.one_in(3) { nodes } else { endpoints };
+fn random_range(random: &mut Random, fabric: &Fabric, origin: u16) -> Option<(u64, u64)> {
+    let open = |record: &Record| record.ranges.iter().any(|&range| range != CLOSED);
+    let mut list = targets(random, fabric, origin);
+    list.retain(|&index| open(fabric.record(index)));
+    if list.is_empty() || random.one_in(3) {
+        list = fabric.matching(open);
+    }
     if list.is_empty() {
         return None;
     }
     let record = fabric.record(random.pick(&list));
-    let open: Vec<(u64, u64)> =
-        record.ranges.iter().copied().filter(|&(first, last)| first <= last).collect();
+    let open: Vec<(u64, u64)> = record
+        .ranges
+        .iter()
+        .copied()
+        .filter(|&(first, last)| first <= last)
+        .collect();
     if open.is_empty() {
         return None;
     }
@@ -135,8 +158,8 @@ fn random_length(random: &mut Random, address: u64) -> u16 {
     let length = match random.below(10) {
         0 => room,
         1 if random.coin() => room + 1,
-        2 => random.below(1025),
-        3 => 0,
+        2 if random.coin() => random.below(1025),
+        3 if room == 1024 || random.one_in(4) => 0,
         _ => random.between(1, room.min(40)),
     };
     length as u16 & 0x3FF

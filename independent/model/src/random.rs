@@ -8,7 +8,7 @@ impl Random {
     }
 
     /// SplitMix64.
-    pub fn next(&mut self) -> u64 {
+    pub fn word(&mut self) -> u64 {
         self.0 = self.0.wrapping_add(0x9E37_79B9_7F4A_7C15);
         let mut z = self.0;
         z = (z ^ (z >> 30)).wrapping_mul(0xBF58_476D_1CE4_E5B9);
@@ -18,7 +18,7 @@ impl Random {
 
     /// A number below `bound`, which is above 0.
     pub fn below(&mut self, bound: u64) -> u64 {
-        self.next() % bound
+        self.word() % bound
     }
 
     pub fn index(&mut self, length: usize) -> usize {
@@ -29,12 +29,12 @@ impl Random {
     pub fn between(&mut self, first: u64, last: u64) -> u64 {
         match (last - first).checked_add(1) {
             Some(count) => first + self.below(count),
-            None => self.next(),
+            None => self.word(),
         }
     }
 
     pub fn byte(&mut self) -> u8 {
-        self.next() as u8
+        self.word() as u8
     }
 
     /// True in one of `count` cases.

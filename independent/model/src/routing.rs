@@ -14,12 +14,22 @@ pub struct Journey {
 
 /// Follows a TLP of the host (`None`) or of an endpoint.
 pub fn follow<R: Rules>(rules: R, snapshot: &Snapshot, origin: Option<u16>, tlp: Tlp) -> Journey {
-    let mut walk = Walk { rules, snapshot, tlp, entered: 0, hops: Vec::with_capacity(16) };
-    let (outcome, node) = match origin {
-        Some(endpoint) => walk.from_endpoint(endpoint),
-        None => walk.from_complex(rules.wrong(Fault::HostChecked)),
+    let mut walk = Walk {
+        rules,
+        snapshot,
+        tlp,
+        entered: 0,
+        hops: Vec::with_capacity(16),
     };
-    Journey { outcome, node, hops: walk.hops }
+    let (outcome, node) = match origin {
+        Some(endpoint) => walk.start_at_endpoint(endpoint),
+        None => walk.enter_from_complex(rules.wrong(Fault::HostChecked)),
+    };
+    Journey {
+        outcome,
+        node,
+        hops: walk.hops,
+    }
 }
 
 /// What a port does with a TLP going up.
@@ -92,8 +102,7 @@ impl<'a, R: Rules> Walk<'a, R> {
     fn covers_id(&self, node: &Node, completion: Completion) -> bool {
         let rules = self.rules;
         if node.kind == Kind::Endpoint {
-            return (node.own_bus == completion.bus
-                || rules.wrong(Fault::EndpointByByteFiveAlone))
+            return (node.own_bus == completion.bus || rules.wrong(Fault::EndpointByByteFiveAlone))
                 && (node.device_function == completion.device_function
                     || rules.wrong(Fault::EndpointByBusAlone));
         }
@@ -104,7 +113,7 @@ impl<'a, R: Rules> Walk<'a, R> {
             || rules.wrong(Fault::BridgeCoversOwnBus) && bus == node.own_bus
     }
 
-    fn from_endpoint(&mut self, endpoint: u16) -> End {
+    fn start_at_endpoint(&mut self, endpoint: u16) -> End {
         let origin = self.node(endpoint);
         let mut port = origin.parent.unwrap_or(endpoint);
         loop {
@@ -158,8 +167,16 @@ impl<'a, R: Rules> Walk<'a, R> {
             Tlp::Request(request) => (Some(request.requester_bus), request.address_type),
             // Completions are never affected by V or B.
             Tlp::Completion(completion) => (
-                rules.choose(Fault::CompletionsSourceValidated, None, Some(completion.bus_in_byte_four)),
-                rules.choose(Fault::CompletionsTranslationBlocked, 0, completion.address_type),
+                rules.choose(
+                    Fault::CompletionsSourceValidated,
+                    None,
+                    Some(completion.bus_in_byte_four),
+                ),
+                rules.choose(
+                    Fault::CompletionsTranslationBlocked,
+                    0,
+                    completion.address_type,
+                ),
             ),
         };
         if rules.wrong(Fault::ValidationFirstPortOnly) && self.entered > 1 {
@@ -248,7 +265,9 @@ impl<'a, R: Rules> Walk<'a, R> {
         let port = self.node(index);
         let handling = match self.tlp {
             Tlp::Request(request) => self.request_to_peer(port, self.node(peer), request),
-            Tlp::Completion(completion) => self.completion_to_peer(port, self.node(peer), completion),
+            Tlp::Completion(completion) => {
+                self.completion_to_peer(port, self.node(peer), completion)
+            }
         };
         match handling {
             Handling::Direct => Decision::Direct(peer),
@@ -310,9 +329,7 @@ impl<'a, R: Rules> Walk<'a, R> {
 
     fn completion_to_peer(&self, port: &Node, peer: &Node, completion: Completion) -> Handling {
         let rules = self.rules;
-        if rules.wrong(Fault::CompletionByEgress)
-            && port.has(acs::E)
-            && self.egress_bit(port, peer)
+        if rules.wrong(Fault::CompletionByEgress) && port.has(acs::E) && self.egress_bit(port, peer)
         {
             return Handling::ViolationE;
         }
@@ -348,18 +365,28 @@ impl<'a, R: Rules> Walk<'a, R> {
             };
         if between_root_ports && !open && !excused {
             let action = rules.choose(Fault::RootDirectHopSeven, Action::Direct, Action::End);
-            self.hop(port, rules.choose(Fault::RootDirectHopOne, action, Action::Up));
+            self.hop(
+                port,
+                rules.choose(Fault::RootDirectHopOne, action, Action::Up),
+            );
             let outcome = rules.choose(Fault::RootDirectHost, Outcome::Unclaimed, Outcome::Host);
             return self.end(outcome, COMPLEX);
         }
-        self.hop(port, rules.choose(Fault::DirectIsDown, Action::Direct, Action::Down));
+        self.hop(
+            port,
+            rules.choose(Fault::DirectIsDown, Action::Direct, Action::Down),
+        );
         let looks_checked = self.node(port).has(acs::R | acs::U);
-        self.down(peer, rules.wrong(Fault::RedirectedAlwaysChecked) && looks_checked)
+        self.down(
+            peer,
+            rules.wrong(Fault::RedirectedAlwaysChecked) && looks_checked,
+        )
     }
 
     fn validate(&mut self, root_port: u16) -> End {
         let rules = self.rules;
-        let reflects = self.snapshot.validation_reflects() != rules.wrong(Fault::ValidationInverted)
+        let reflects = self.snapshot.validation_reflects()
+            != rules.wrong(Fault::ValidationInverted)
             || rules.wrong(Fault::ValidationAlwaysReflects);
         if reflects {
             return self.reflect(root_port);
@@ -374,8 +401,11 @@ impl<'a, R: Rules> Walk<'a, R> {
 
     fn reflect(&mut self, root_port: u16) -> End {
         let rules = self.rules;
-        let action =
-            rules.choose(Fault::ReflectedIsRedirect, Action::Reflected, Action::Redirected);
+        let action = rules.choose(
+            Fault::ReflectedIsRedirect,
+            Action::Reflected,
+            Action::Redirected,
+        );
         self.hop(root_port, action);
         let checked = !rules.wrong(Fault::ReflectedUnvalidated);
         if rules.wrong(Fault::ReflectedSamePort) {
@@ -387,11 +417,12 @@ impl<'a, R: Rules> Walk<'a, R> {
         {
             return self.end(Outcome::Unclaimed, COMPLEX);
         }
-        self.from_complex(checked)
+        self.enter_from_complex(checked)
     }
 
     fn parent_covers(&self, port: &Node) -> bool {
-        port.parent.is_some_and(|parent| self.covers(self.node(parent)))
+        port.parent
+            .is_some_and(|parent| self.covers(self.node(parent)))
     }
 
     /// Steps 5 and 6: the port above, or the end of the way.
@@ -401,7 +432,10 @@ impl<'a, R: Rules> Walk<'a, R> {
         if self.parent_covers(port) && !rules.wrong(Fault::StepFiveLeftOut) {
             self.hop(index, Action::Up);
             let at = port.parent.unwrap_or(COMPLEX);
-            return Err(self.end(Outcome::Unclaimed, rules.choose(Fault::StepFiveAtPort, at, index)));
+            return Err(self.end(
+                Outcome::Unclaimed,
+                rules.choose(Fault::StepFiveAtPort, at, index),
+            ));
         }
         self.up(index, Action::Up)
     }
@@ -423,11 +457,18 @@ impl<'a, R: Rules> Walk<'a, R> {
         }
         let completion = matches!(self.tlp, Tlp::Completion(_));
         let lost = rules.wrong(Fault::CompletionsDontReachHost) && completion;
-        Err(self.end(if lost { Outcome::Unclaimed } else { Outcome::Host }, COMPLEX))
+        Err(self.end(
+            if lost {
+                Outcome::Unclaimed
+            } else {
+                Outcome::Host
+            },
+            COMPLEX,
+        ))
     }
 
     /// Down the root port that covers it: the host's TLP or a reflected one.
-    fn from_complex(&mut self, checked: bool) -> End {
+    fn enter_from_complex(&mut self, checked: bool) -> End {
         let mut root_ports = self.snapshot.children(None);
         match root_ports.find(|&port| self.covers(self.node(port))) {
             Some(port) => self.down(port, checked),
@@ -449,13 +490,17 @@ impl<'a, R: Rules> Walk<'a, R> {
                 return self.childless(port);
             };
             let again = self.hops.last()
-                == Some(&Hop { index: port, action: Action::Reflected });
+                == Some(&Hop {
+                    index: port,
+                    action: Action::Reflected,
+                });
             if !(rules.wrong(Fault::ReflectedOnce) && again) {
                 self.hop(port, Action::Down);
             }
             let node = self.node(child);
             let endpoint = node.kind == Kind::Endpoint;
-            if !self.covers(node) && !(endpoint && rules.wrong(Fault::EndpointTakesAll)) {
+            let taken_anyway = endpoint && rules.wrong(Fault::EndpointTakesAll);
+            if !self.covers(node) && !taken_anyway {
                 let at = rules.choose(Fault::ChildUnclaimedAtPort, child, port);
                 return self.end(Outcome::Unclaimed, at);
             }
@@ -477,7 +522,10 @@ impl<'a, R: Rules> Walk<'a, R> {
     fn childless(&mut self, port: u16) -> End {
         let rules = self.rules;
         if rules.wrong(Fault::ChildlessPassesUp) {
-            return self.end(Outcome::Unclaimed, self.node(port).parent.unwrap_or(COMPLEX));
+            return self.end(
+                Outcome::Unclaimed,
+                self.node(port).parent.unwrap_or(COMPLEX),
+            );
         }
         if rules.wrong(Fault::ChildlessHopSix) {
             self.hop(port, Action::Down);

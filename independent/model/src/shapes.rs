@@ -31,7 +31,7 @@ pub fn random_fabric(random: &mut Random, records: usize) -> Fabric {
 fn set_times(random: &mut Random, fabric: &mut Fabric) {
     fabric.taken = match random.below(6) {
         0 => 0,
-        1 => random.next(),
+        1 => random.word(),
         _ => random.below(1 << 33),
     };
     fabric.until = match random.below(6) {
@@ -62,13 +62,25 @@ impl Tree {
     }
 
     fn bridges(&self) -> usize {
-        self.records.iter().filter(|record| record.is_bridge()).count()
+        self.records
+            .iter()
+            .filter(|record| record.is_bridge())
+            .count()
     }
 
     /// Grows a tree: kinds and parents only.
     fn grow(random: &mut Random, count: usize) -> Tree {
-        let mut tree = Tree { records: Vec::new(), children: Vec::new(), roots: Vec::new() };
-        let roots = 1 + random.index(if random.one_in(3) { count.clamp(1, 8) } else { 2 });
+        let mut tree = Tree {
+            records: Vec::new(),
+            children: Vec::new(),
+            roots: Vec::new(),
+        };
+        let most_roots = if random.one_in(3) {
+            count.clamp(1, 8)
+        } else {
+            2
+        };
+        let roots = 1 + random.index(most_roots);
         let deep = random.one_in(4);
         let mut free: Vec<usize> = (0..roots.min(count)).map(|_| tree.add(1, None)).collect();
         while tree.records.len() < count {
@@ -83,7 +95,11 @@ impl Tree {
             if random.one_in(12) {
                 continue; // stays without a child
             }
-            let switch_wanted = if deep { !random.one_in(6) } else { random.one_in(3) };
+            let switch_wanted = if deep {
+                !random.one_in(6)
+            } else {
+                random.one_in(3)
+            };
             if room >= 2 && switch_wanted && tree.bridges() + 2 <= MOST_BRIDGES {
                 free.extend(tree.add_switch(random, port, room - 1, deep));
             } else {
@@ -101,7 +117,13 @@ impl Tree {
         deep: bool,
     ) -> Vec<usize> {
         let upstream = self.add(2, Some(port));
-        let most = if random.one_in(10) { 64 } else if deep { 2 } else { 4 };
+        let most = if random.one_in(10) {
+            64
+        } else if deep {
+            2
+        } else {
+            4
+        };
         let most = most.min(room).min(MOST_BRIDGES - self.bridges());
         let ports = 1 + random.index(most);
         (0..ports).map(|_| self.add(3, Some(upstream))).collect()
@@ -109,8 +131,9 @@ impl Tree {
 
     /// A further port, when every port has its child: beside others or a root port.
     fn another_port(&mut self, random: &mut Random) -> Option<usize> {
-        let upstream: Vec<usize> =
-            (0..self.records.len()).filter(|&index| self.records[index].kind == 2).collect();
+        let upstream: Vec<usize> = (0..self.records.len())
+            .filter(|&index| self.records[index].kind == 2)
+            .collect();
         if upstream.is_empty() || random.one_in(3) {
             return Some(self.add(1, None));
         }
@@ -139,7 +162,10 @@ impl Tree {
             record
         });
         let records = records.collect();
-        let children = order.iter().map(|&old| moved(&self.children[old])).collect();
+        let children = order
+            .iter()
+            .map(|&old| moved(&self.children[old]))
+            .collect();
         self.roots = moved(&self.roots);
         self.records = records;
         self.children = children;
@@ -227,8 +253,11 @@ impl Tree {
     /// Gives parts of the regions to bridges, as memory or prefetchable windows.
     fn share(&mut self, random: &mut Random, regions: &[Units], bridges: &[usize]) {
         for &region in regions {
-            let mut takers: Vec<usize> =
-                bridges.iter().copied().filter(|_| !random.one_in(8)).collect();
+            let mut takers: Vec<usize> = bridges
+                .iter()
+                .copied()
+                .filter(|_| !random.one_in(8))
+                .collect();
             if !bridges.is_empty() && random.one_in(3) {
                 takers.push(random.pick(bridges));
             }
@@ -289,10 +318,12 @@ fn distinct_bytes(random: &mut Random, count: usize) -> Vec<u8> {
         0 => {}
         1 => {
             // One for each device first, as switches often number their ports.
-            bytes = (0..256u32).map(|k| ((k % 32) << 3 | k / 32) as u8).collect();
+            bytes = (0..256u32)
+                .map(|k| (((k % 32) << 3) | (k / 32)) as u8)
+                .collect();
         }
         2 => {
-            bytes.truncate(count.max(8).min(256));
+            bytes.truncate(count.clamp(8, 256));
             random.shuffle(&mut bytes);
         }
         _ => random.shuffle(&mut bytes),
@@ -330,7 +361,11 @@ fn cut(random: &mut Random, region: Units, mut takers: Vec<usize>) -> Vec<(usize
         let waiting = (takers.len() - done - 1) as u64;
         let room = last - next + 1 - waiting;
         let fair = room / (waiting + 1);
-        let skip = if tight || fair < 2 { 0 } else { random.below(fair / 2 + 1) };
+        let skip = if tight || fair < 2 {
+            0
+        } else {
+            random.below(fair / 2 + 1)
+        };
         let room = room - skip;
         let size = match random.below(3) {
             0 => 1,
@@ -346,23 +381,33 @@ fn cut(random: &mut Random, region: Units, mut takers: Vec<usize>) -> Vec<(usize
 
 fn open_units(ranges: &[(u64, u64); 6]) -> Vec<Units> {
     let open = ranges[..2].iter().filter(|&&range| range != CLOSED);
-    open.map(|&(first, last)| (first / MIB, last / MIB)).collect()
+    open.map(|&(first, last)| (first / MIB, last / MIB))
+        .collect()
 }
 
 /// Up to six ranges of an endpoint inside the windows above it.
 fn endpoint_ranges(random: &mut Random, windows: &[(u64, u64); 6]) -> [(u64, u64); 6] {
     let mut ranges = [CLOSED; 6];
-    let windows: Vec<(u64, u64)> =
-        windows[..2].iter().copied().filter(|&window| window != CLOSED).collect();
+    let windows: Vec<(u64, u64)> = windows[..2]
+        .iter()
+        .copied()
+        .filter(|&window| window != CLOSED)
+        .collect();
     if windows.is_empty() || random.one_in(16) {
         return ranges;
     }
-    let tries = if random.one_in(4) { 6 } else { 1 + random.index(3) };
+    let tries = if random.one_in(4) {
+        6
+    } else {
+        1 + random.index(3)
+    };
     for _ in 0..tries {
         let window = random.pick(&windows);
         let slot = if random.coin() { 0 } else { random.index(6) };
         if let Some((first, last)) = place_range(random, window) {
-            let apart = ranges.iter().all(|&(a, b)| (a, b) == CLOSED || b < first || last < a);
+            let apart = ranges
+                .iter()
+                .all(|&(a, b)| (a, b) == CLOSED || b < first || last < a);
             if apart && ranges[slot] == CLOSED {
                 ranges[slot] = (first, last);
             }
@@ -373,7 +418,9 @@ fn endpoint_ranges(random: &mut Random, windows: &[(u64, u64); 6]) -> [(u64, u64
 
 /// A power of two in length, aligned, inside the window.
 fn place_range(random: &mut Random, (first, last): (u64, u64)) -> Option<(u64, u64)> {
-    let largest = (last - first).checked_add(1).map_or(63, |length| length.ilog2());
+    let largest = (last - first)
+        .checked_add(1)
+        .map_or(63, |length| length.ilog2());
     let exponent = match random.below(6) {
         0 => 7,
         1 => largest,
@@ -400,7 +447,11 @@ fn random_capability(random: &mut Random, kind: u8, peer_number: u8) -> u16 {
     if random.one_in(8) {
         return 0;
     }
-    let mut bits = if kind == 3 { DOWNSTREAM_BITS } else { acs::V | acs::B };
+    let mut bits = if kind == 3 {
+        DOWNSTREAM_BITS
+    } else {
+        acs::V | acs::B
+    };
     if kind == 1 && !random.one_in(4) {
         bits |= acs::R | acs::C;
     }
@@ -423,7 +474,7 @@ fn random_capability(random: &mut Random, kind: u8, peer_number: u8) -> u16 {
 
 /// Control bits before those that Capability lacks are taken off.
 fn random_control(random: &mut Random, mode: u64) -> u16 {
-    let any = random.next() as u16 & acs::ALL;
+    let any = random.word() as u16 & acs::ALL;
     match mode {
         0 => 0,
         1 => acs::R | acs::C | acs::U,
@@ -459,12 +510,22 @@ const WINDOW: (u64, u64) = (0x8000_0000, 0x8FFF_FFFF);
 pub fn chain(records: usize, flags: u8, control: u16) -> Fabric {
     let mut list = Vec::with_capacity(records);
     for index in 0..records - 1 {
-        let kind = if index == 0 { 1 } else if index % 2 == 1 { 2 } else { 3 };
+        let kind = if index == 0 {
+            1
+        } else if index % 2 == 1 {
+            2
+        } else {
+            3
+        };
         // A switch at the end has no port left for an endpoint.
         if kind == 2 && index + 2 == records {
             break;
         }
-        let parent = if index == 0 { NO_PARENT } else { index as u16 - 1 };
+        let parent = if index == 0 {
+            NO_PARENT
+        } else {
+            index as u16 - 1
+        };
         let mut record = Record::new(kind, parent)
             .buses(index as u8, index as u8 + 1, 255)
             .range(0, WINDOW.0, WINDOW.1);
@@ -475,7 +536,11 @@ pub fn chain(records: usize, flags: u8, control: u16) -> Fabric {
     }
     let last = list.len() as u16 - 1;
     let bus = list[usize::from(last)].secondary;
-    list.push(Record::new(4, last).buses(bus, 0, 0).range(0, WINDOW.0, WINDOW.0 + 0xFFF));
+    list.push(
+        Record::new(4, last)
+            .buses(bus, 0, 0)
+            .range(0, WINDOW.0, WINDOW.0 + 0xFFF),
+    );
     Fabric::new(flags, list)
 }
 
@@ -489,7 +554,9 @@ pub fn wide(records: usize, flags: u8, control: u16) -> Fabric {
             .buses(0, 1, last_bus)
             .acs(0xFF7F, control)
             .range(0, WINDOW.0, WINDOW.1),
-        Record::new(2, 0).buses(1, 2, last_bus).range(0, WINDOW.0, WINDOW.1),
+        Record::new(2, 0)
+            .buses(1, 2, last_bus)
+            .range(0, WINDOW.0, WINDOW.1),
     ];
     for port in 0..ports {
         let first = WINDOW.0 + MIB * port as u64;
@@ -532,7 +599,9 @@ pub fn with_endpoints(mut fabric: Fabric, count: usize) -> Fabric {
         let above = fabric.records[port].clone();
         let first = above.ranges[0].0;
         fabric.records.push(
-            Record::new(4, port as u16).buses(above.secondary, 0, 0).range(0, first, first + 0xFFF),
+            Record::new(4, port as u16)
+                .buses(above.secondary, 0, 0)
+                .range(0, first, first + 0xFFF),
         );
     }
     fabric

@@ -209,7 +209,10 @@ fn rest_of_head_right<R: Rules>(rules: R, bytes: &[u8]) -> bool {
         bytes.len() == length || rules.wrong(Fault::LongerTaken) && bytes.len() > length;
     rules.test(Fault::FlagsNotTested, bytes[3] & !3 == 0)
         && rules.test(Fault::CountNotTested, count <= most)
-        && rules.test(Fault::UntilBelowTakenTaken, le64(bytes, 16) >= le64(bytes, 8))
+        && rules.test(
+            Fault::UntilBelowTakenTaken,
+            le64(bytes, 16) >= le64(bytes, 8),
+        )
         && length_right
 }
 
@@ -241,7 +244,10 @@ pub fn read_records<R: Rules>(rules: R, bytes: &[u8]) -> Result<Snapshot<'_>, Re
     for (index, record) in (0..count).zip(bytes[HEAD..].chunks_exact(RECORD)) {
         if reader.add(index, record).is_none() {
             let shown = rules.choose(Fault::RecordIndexFromOne, index, index + 1);
-            return Err(Refusal::new(4, rules.choose(Fault::RecordIndexZero, shown, 0)));
+            return Err(Refusal::new(
+                4,
+                rules.choose(Fault::RecordIndexZero, shown, 0),
+            ));
         }
     }
     Ok(reader.snapshot)
@@ -285,7 +291,11 @@ impl<'a, R: Rules> Reader<'a, R> {
         Some(Node {
             kind,
             port_number: record[1],
-            parent: if kind == Kind::RootPort { None } else { Some(le16(record, 2)) },
+            parent: if kind == Kind::RootPort {
+                None
+            } else {
+                Some(le16(record, 2))
+            },
             own_bus: record[4],
             device_function: record[5],
             secondary: record[6],
@@ -323,7 +333,9 @@ impl<'a, R: Rules> Reader<'a, R> {
     /// The parent rule.
     fn stands_right(&self, index: u16, kind: Kind, parent: u16) -> bool {
         if kind == Kind::RootPort {
-            return self.rules.test(Fault::RootParentNotTested, parent == NO_PARENT);
+            return self
+                .rules
+                .test(Fault::RootParentNotTested, parent == NO_PARENT);
         }
         if parent >= index {
             return false;
@@ -344,12 +356,15 @@ impl<'a, R: Rules> Reader<'a, R> {
     fn unused_bytes_zero(&self, kind: Kind, record: &[u8]) -> bool {
         let rules = self.rules;
         let zero = |bytes: &[u8]| bytes.iter().all(|&byte| byte == 0);
-        let reserved = rules.choose(Fault::ByteFifteenNotTested, &record[12..16], &record[12..15]);
+        let reserved = rules.choose(
+            Fault::ByteFifteenNotTested,
+            &record[12..16],
+            &record[12..15],
+        );
         if !rules.test(Fault::BytesTwelveNotTested, zero(reserved)) {
             return false;
         }
-        if kind == Kind::Endpoint
-            && !rules.test(Fault::EndpointBusesNotTested, zero(&record[6..8]))
+        if kind == Kind::Endpoint && !rules.test(Fault::EndpointBusesNotTested, zero(&record[6..8]))
         {
             return false;
         }
@@ -364,18 +379,17 @@ impl<'a, R: Rules> Reader<'a, R> {
         let rules = self.rules;
         let parent = self.parent(node);
         let own_bus_right = match parent {
-            Some(parent) => {
-                rules.test(Fault::OwnBusNotTested, node.own_bus == parent.secondary)
-            }
+            Some(parent) => rules.test(Fault::OwnBusNotTested, node.own_bus == parent.secondary),
             None => rules.test(Fault::RootOwnBusNotTested, node.own_bus == 0),
         };
         if !node.kind.is_bridge() {
             return own_bus_right;
         }
         let (own, secondary, subordinate) = (node.own_bus, node.secondary, node.subordinate);
-        let own_below = own < secondary
-            || rules.wrong(Fault::SecondaryMayBeOwnBus) && own == secondary;
-        let ordered = secondary <= subordinate || rules.wrong(Fault::SubordinateBelowSecondaryTaken);
+        let own_below =
+            own < secondary || rules.wrong(Fault::SecondaryMayBeOwnBus) && own == secondary;
+        let ordered =
+            secondary <= subordinate || rules.wrong(Fault::SubordinateBelowSecondaryTaken);
         let ordered =
             ordered && !(rules.wrong(Fault::SubordinateAboveSecondary) && secondary == subordinate);
         let in_parent = parent.is_none_or(|parent| {
@@ -401,9 +415,7 @@ impl<'a, R: Rules> Reader<'a, R> {
         let rules = self.rules;
         let capability = node.capability;
         let has = |bits: u16| capability & bits == bits;
-        if capability == 0
-            || rules.wrong(Fault::CapabilitySizeAlone) && capability & 0xFF == 0
-        {
+        if capability == 0 || rules.wrong(Fault::CapabilitySizeAlone) && capability & 0xFF == 0 {
             return true;
         }
         let full = has(acs::R | acs::C | acs::U | acs::T);
@@ -436,8 +448,10 @@ impl<'a, R: Rules> Reader<'a, R> {
         let rules = self.rules;
         let [memory, prefetchable, unused @ ..] = &node.ranges;
         let below = |window: &Option<Range>| window.is_none_or(|window| window.last < 1 << 32);
-        rules.test(Fault::BridgeRangesNotTested, unused.iter().all(Option::is_none))
-            && rules.test(Fault::MemoryAboveFourGiB, below(memory))
+        rules.test(
+            Fault::BridgeRangesNotTested,
+            unused.iter().all(Option::is_none),
+        ) && rules.test(Fault::MemoryAboveFourGiB, below(memory))
             && (below(prefetchable) || !rules.wrong(Fault::PrefetchableBelowFourGiB))
             && node.ranges().all(|window| self.window_edges_right(window))
     }
@@ -445,8 +459,8 @@ impl<'a, R: Rules> Reader<'a, R> {
     fn window_edges_right(&self, window: Range) -> bool {
         let rules = self.rules;
         let unit = rules.choose(Fault::WindowUnitSmall, WINDOW_UNIT, 1 << 16);
-        rules.test(Fault::WindowFirstNotTested, window.first % unit == 0)
-            && rules.test(Fault::WindowLastNotTested, window.last % unit == unit - 1)
+        rules.test(Fault::WindowFirstNotTested, window.first & (unit - 1) == 0)
+            && rules.test(Fault::WindowLastNotTested, !window.last & (unit - 1) == 0)
             && !(rules.wrong(Fault::WindowToTheTopRefused) && window.last == u64::MAX)
     }
 
@@ -459,15 +473,14 @@ impl<'a, R: Rules> Reader<'a, R> {
             return rules.wrong(Fault::Length64BitsTaken);
         }
         let length = mask + 1;
-        let power = length.is_power_of_two()
-            || rules.wrong(Fault::LengthNotPower) && length % 128 == 0;
+        let power = length.is_power_of_two();
         let shortest = rules.choose(Fault::Length64Taken, 128, 64);
         let shortest = rules.choose(Fault::Length128Refused, shortest, 256);
-        let alignment = if length.is_power_of_two() { length } else { 128 };
-        power
+        let low_bits = if power { mask } else { 127 };
+        (power || rules.wrong(Fault::LengthNotPower) && length & 127 == 0)
             && length >= shortest
             && !(rules.wrong(Fault::Length63Refused) && length == 1 << 63)
-            && rules.test(Fault::AlignmentNotTested, range.first % alignment == 0)
+            && rules.test(Fault::AlignmentNotTested, range.first & low_bits == 0)
     }
 
     fn own_ranges_apart(&self, node: &Node) -> bool {
@@ -512,12 +525,21 @@ impl<'a, R: Rules> Reader<'a, R> {
     }
 
     fn number_known(&self, node: &Node) -> bool {
-        let ports = self.snapshot.nodes.iter().filter(|other| other.kind.is_port());
-        node.kind.is_port() && ports.into_iter().any(|port| port.port_number == node.port_number)
+        let ports = self
+            .snapshot
+            .nodes
+            .iter()
+            .filter(|other| other.kind.is_port());
+        node.kind.is_port()
+            && ports
+                .into_iter()
+                .any(|port| port.port_number == node.port_number)
     }
 
     fn pair_right(&self, node: &Node, sibling: &Node) -> bool {
         let rules = self.rules;
+        let bridges = node.kind.is_bridge() && sibling.kind.is_bridge();
+        let ports = node.kind.is_port() && sibling.kind.is_port();
         let buses_meet = if rules.wrong(Fault::SiblingBusesMayTouch) {
             node.secondary < sibling.subordinate && sibling.secondary < node.subordinate
         } else {
@@ -526,20 +548,28 @@ impl<'a, R: Rules> Reader<'a, R> {
         let same_number = node.port_number == sibling.port_number;
         let shift = rules.choose(Fault::DevicesMustDiffer, 0, 3);
         let same_place = node.device_function >> shift == sibling.device_function >> shift;
-        rules.test(Fault::SiblingBusesNotTested, !buses_meet)
-            && rules.test(Fault::PortNumbersNotTested, !same_number)
-            && rules.test(Fault::ByteFiveSiblingsNotTested, !same_place)
-            && rules.test(Fault::SiblingOverlapNotTested, self.ranges_apart(node, sibling))
+        rules.test(Fault::SiblingBusesNotTested, !(bridges && buses_meet))
+            && rules.test(Fault::PortNumbersNotTested, !(ports && same_number))
+            && rules.test(Fault::ByteFiveSiblingsNotTested, !(ports && same_place))
+            && rules.test(
+                Fault::SiblingOverlapNotTested,
+                self.ranges_apart(node, sibling),
+            )
     }
 
     fn ranges_apart(&self, node: &Node, sibling: &Node) -> bool {
         if self.rules.wrong(Fault::SiblingOverlapSameNumber) {
-            return node.slots().iter().zip(sibling.slots()).all(|pair| match pair {
-                (Some(a), Some(b)) => !a.overlaps(*b),
-                _ => true,
-            });
+            return node
+                .slots()
+                .iter()
+                .zip(sibling.slots())
+                .all(|pair| match pair {
+                    (Some(a), Some(b)) => !a.overlaps(*b),
+                    _ => true,
+                });
         }
-        node.ranges().all(|a| sibling.ranges().all(|b| !a.overlaps(b)))
+        node.ranges()
+            .all(|a| sibling.ranges().all(|b| !a.overlaps(b)))
     }
 
     /// Each open range lies inside one window of the parent.
@@ -547,10 +577,14 @@ impl<'a, R: Rules> Reader<'a, R> {
         let Some(parent) = self.parent(node) else {
             return true;
         };
-        let nested = node.slots().iter().enumerate().all(|(number, range)| match range {
-            Some(range) => self.inside_window(node.kind, number, *range, parent),
-            None => true,
-        });
+        let nested = node
+            .slots()
+            .iter()
+            .enumerate()
+            .all(|(number, range)| match range {
+                Some(range) => self.inside_window(node.kind, number, *range, parent),
+                None => true,
+            });
         self.rules.test(Fault::NestingNotTested, nested)
     }
 

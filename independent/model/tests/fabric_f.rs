@@ -1,8 +1,8 @@
 //! F1 to F14 of document 01, line by line.
 
+use model::fabric::Fabric;
 use model::fabric::{completion, fabric_f, request, DATA_COMPLETION, READ, WRITE};
 use model::program::{acsroute, input_bytes};
-use model::fabric::Fabric;
 
 const NOW: u64 = 1500;
 const PEER: u64 = 0x8010_0000;
@@ -12,7 +12,10 @@ fn answer(fabric: &Fabric, origin: u16, header: &[u8]) -> String {
 }
 
 fn expect(fabric: &Fabric, origin: u16, header: &[u8], line: &str) {
-    assert_eq!(answer(fabric, origin, header), format!("ACS 1 records 6\n{line}\n"));
+    assert_eq!(
+        answer(fabric, origin, header),
+        format!("ACS 1 records 6\n{line}\n")
+    );
 }
 
 /// A write of one doubleword from endpoint 4 to 80100000h.
@@ -42,7 +45,12 @@ fn f2() {
 
 #[test]
 fn f3() {
-    expect(&fabric_f(0, 0x17), 4, &usual(), "violation 0 X drop 2:2 0:7");
+    expect(
+        &fabric_f(0, 0x17),
+        4,
+        &usual(),
+        "violation 0 X drop 2:2 0:7",
+    );
 }
 
 #[test]
@@ -63,7 +71,12 @@ fn f6() {
 #[test]
 fn f7() {
     let read = request(READ, 0x0300, 0, PEER, 1);
-    expect(&with_bit_two(fabric_f(2, 0x20)), 4, &read, "violation 2 E abort 2:7");
+    expect(
+        &with_bit_two(fabric_f(2, 0x20)),
+        4,
+        &read,
+        "violation 2 E abort 2:7",
+    );
 }
 
 #[test]
@@ -110,7 +123,12 @@ fn f13() {
 fn f14() {
     let fabric = fabric_f(2, 0x18);
     let ordered = completion(DATA_COMPLETION, 0x0300, false);
-    expect(&fabric, 5, &ordered, "delivered 4 checked 3:2 0:5 0:6 2:6 4:7");
+    expect(
+        &fabric,
+        5,
+        &ordered,
+        "delivered 4 checked 3:2 0:5 0:6 2:6 4:7",
+    );
     let relaxed = completion(DATA_COMPLETION, 0x0300, true);
     expect(&fabric, 5, &relaxed, "delivered 4 unvalidated 3:4 2:6 4:7");
 }
@@ -121,5 +139,8 @@ fn framing() {
     assert_eq!(acsroute(&[]), "input\n");
     assert_eq!(acsroute(&input[..input.len() - 1]), "input\n");
     assert_eq!(acsroute(&[&input[..], &[0]].concat()), "input\n");
-    assert_eq!(acsroute(&input_bytes(&[], NOW, 4, &usual())), "refusal 1 0\n");
+    assert_eq!(
+        acsroute(&input_bytes(&[], NOW, 4, &usual())),
+        "refusal 1 0\n"
+    );
 }

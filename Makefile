@@ -1,0 +1,167 @@
+# Builds the library for C, shows it, compares it and measures it.
+# `make help` lists what there is; docs/INTERFACE.md describes the interface.
+
+# The archive: what `rt staticlib acs` writes, or another one, as in
+#     make demo ACS_LIB=path/to/libacs.a
+ACS_LIB ?= target/staticlib/libacs.a
+
+PREFIX  ?= /usr/local
+LIBDIR  ?= $(PREFIX)/lib
+VERSION := 0.1.0
+
+RT      ?= rt
+CARGO   ?= cargo
+PYTHON  ?= python3
+CFLAGS  ?= -O2 -g
+STRICT  := -std=c99 -Wall -Wextra -Wpedantic
+
+# The archive is for x86-64. Elsewhere its programs are built by a cross compiler
+# and run by an emulator (tools/setup_arm.sh installs both).
+ARCH := $(shell uname -m)
+ifeq ($(ARCH),x86_64)
+  TOOLS     :=
+  RUN       ?=
+  CARGO_ENV :=
+else
+  TOOLS     := x86_64-linux-gnu-
+  RUN       ?= qemu-x86_64 -L /
+  CARGO_ENV  = CARGO_BUILD_TARGET=x86_64-unknown-linux-gnu \
+               CARGO_TARGET_X86_64_UNKNOWN_LINUX_GNU_LINKER='$(CC)' \
+               CARGO_TARGET_X86_64_UNKNOWN_LINUX_GNU_RUNNER='$(RUN)'
+endif
+ifeq ($(origin CC),default)
+  CC := $(TOOLS)gcc
+endif
+
+# A folder stands for the archive in it.
+ifneq ($(wildcard $(ACS_LIB)/libacs.a),)
+  override ACS_LIB := $(ACS_LIB)/libacs.a
+endif
+
+SNAPSHOTS := examples/snapshots
+INDEPENDENT := --release --offline --manifest-path independent/Cargo.toml
+AGAINST = ACS_LIB='$(abspath $(dir $(ACS_LIB)))' $(CARGO_ENV) $(CARGO) run $(INDEPENDENT) -p against
+SEEDED = $(if $(SEED),--seed $(SEED)) $(if $(CASES),--cases $(CASES))
+
+.DELETE_ON_ERROR:
+.PHONY: help demo test lib install uninstall header example try compare faults bench corpus \
+        snapshots stack symbols clean FORCE
+
+help:
+	@echo 'make demo        build, and show Fabric F in the cases F1 to F14'
+	@echo 'make test        the gate: prove everything, run every program (.ci/run)'
+	@echo 'make lib         the archive and its header, in build/dist'
+	@echo 'make install     libacs.a, acs.h and acs.pc under PREFIX ($(PREFIX)); DESTDIR is honoured'
+	@echo 'make uninstall   remove them'
+	@echo 'make example     build examples/service.c, and ask it about three snapshots'
+	@echo 'make try         ask the example everything that can go wrong'
+	@echo 'make header      compile acs.h by itself, as C and as C++'
+	@echo 'make compare     the library against the independent program (SEED=S CASES=N)'
+	@echo 'make faults      that the comparison notices each deliberate fault (SEED=S CASES=N)'
+	@echo 'make bench       the library beside the independent program, timed'
+	@echo 'make stack       how much stack the two calls need'
+	@echo 'make symbols     what the archive defines and needs, and that it has no memory of its own'
+	@echo 'make corpus      write the cases of crates/acscases anew'
+	@echo 'make snapshots   write the sample snapshots anew'
+	@echo 'make clean       remove build/ and independent/target/'
+
+# ---- The archive ----
+
+# Only the default archive is made here; another one has to be there.
+ifeq ($(origin ACS_LIB),file)
+$(ACS_LIB): crates.txt $(shell find crates -name '*.rt' -o -name '*.antt')
+	@mkdir -p build
+	@echo 'rt staticlib acs: proves the library and writes $@; this takes a while'
+	@$(RT) staticlib acs > build/staticlib.log 2>&1 \
+	    || { tail -n 20 build/staticlib.log; echo 'all of it is in build/staticlib.log'; exit 1; }
+	@tail -n 1 build/staticlib.log
+endif
+
+lib: $(ACS_LIB) include/acs.h
+	install -d build/dist/lib build/dist/include
+	install -m 644 $(ACS_LIB) build/dist/lib/libacs.a
+	install -m 644 include/acs.h build/dist/include/acs.h
+
+install: $(ACS_LIB) include/acs.h tools/acs.pc.in
+	install -d '$(DESTDIR)$(LIBDIR)/pkgconfig' '$(DESTDIR)$(PREFIX)/include'
+	install -m 644 $(ACS_LIB) '$(DESTDIR)$(LIBDIR)/libacs.a'
+	install -m 644 include/acs.h '$(DESTDIR)$(PREFIX)/include/acs.h'
+	sed -e 's|@PREFIX@|$(abspath $(PREFIX))|' -e 's|@LIBDIR@|$(abspath $(LIBDIR))|' \
+	    -e 's|@VERSION@|$(VERSION)|' tools/acs.pc.in > '$(DESTDIR)$(LIBDIR)/pkgconfig/acs.pc'
+	chmod 644 '$(DESTDIR)$(LIBDIR)/pkgconfig/acs.pc'
+
+uninstall:
+	rm -f '$(DESTDIR)$(LIBDIR)/libacs.a' '$(DESTDIR)$(PREFIX)/include/acs.h' \
+	    '$(DESTDIR)$(LIBDIR)/pkgconfig/acs.pc'
+
+# ---- Programs in C ----
+
+# Programs are built again where the archive, the compiler or its flags are others.
+SETTING = $(ACS_LIB) $(CC) $(CPPFLAGS) $(CFLAGS) $(LDFLAGS) $(LDLIBS)
+build/setting: FORCE
+	@mkdir -p build
+	@echo '$(SETTING)' | cmp -s - $@ || echo '$(SETTING)' > $@
+
+COMMON := examples/words.c examples/words.h include/acs.h
+COMPILE = $(CC) $(CPPFLAGS) -Iinclude -Iexamples $(STRICT) $(CFLAGS) $(LDFLAGS) -o $@ \
+          $(filter %.c,$^) $(ACS_LIB) $(LDLIBS)
+
+build/service: examples/service.c $(COMMON) $(ACS_LIB) build/setting
+	$(COMPILE)
+
+build/demo: examples/demo.c $(COMMON) $(ACS_LIB) build/setting
+	$(COMPILE)
+
+# All symbols are bound at the start, so that no call pays for it with its stack.
+build/stack: tools/stack.c $(COMMON) $(ACS_LIB) build/setting
+	$(COMPILE) -pthread -Wl,-z,now
+
+demo: build/demo
+	@$(RUN) build/demo $(SNAPSHOTS)
+
+example: build/service
+	@echo; echo '$$ service fabric-f-17h.acs 4 write 0x80100000 03:00.0'
+	@$(RUN) build/service $(SNAPSHOTS)/fabric-f-17h.acs 4 write 0x80100000 03:00.0
+	@echo; echo '$$ service expired.acs 4 write 0x80100000 03:00.0'
+	@$(RUN) build/service $(SNAPSHOTS)/expired.acs 4 write 0x80100000 03:00.0 || test $$? -eq 1
+	@echo; echo '$$ service torn.acs 4 write 0x80100000 03:00.0'
+	@$(RUN) build/service $(SNAPSHOTS)/torn.acs 4 write 0x80100000 03:00.0 || test $$? -eq 1
+	@echo; echo 'build/service --help says what else can be asked.'
+
+try: build/service
+	@RUN='$(RUN)' tools/try_service.sh build/service $(SNAPSHOTS)
+
+stack: build/stack
+	@$(RUN) build/stack $(SNAPSHOTS)
+
+symbols: $(ACS_LIB)
+	@tools/symbols.sh $(ACS_LIB) $(TOOLS)
+
+header:
+	@for words in 'c -std=c99' 'c -std=c11' 'c++ -std=c++98' 'c++ -std=c++17'; do \
+	    echo "acs.h by itself, as $${words#* -std=}"; \
+	    $(CC) -x $$words -Wall -Wextra -Wpedantic -Werror -fsyntax-only include/acs.h || exit 1; \
+	done
+
+# ---- The gate, and the independent program ----
+
+test:
+	./.ci/run
+
+compare: $(ACS_LIB)
+	$(AGAINST) --bin compare -- $(SEEDED)
+
+faults: $(ACS_LIB)
+	$(AGAINST) --bin compare -- --faults $(SEEDED)
+
+bench: $(ACS_LIB)
+	$(AGAINST) --bin bench
+
+corpus:
+	$(CARGO) run $(INDEPENDENT) -p model --bin corpus -- crates/acscases
+
+snapshots:
+	$(PYTHON) tools/make_snapshots.py
+
+clean:
+	rm -rf build independent/target

@@ -1,0 +1,3 @@
+pub mod Covering
+pub mod Deciding
+pub mod Laid

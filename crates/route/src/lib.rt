@@ -1,0 +1,5 @@
+// Covering, the decision at one port, the way up, the way down and the hops.
+mod cover;
+mod decide;
+mod hops;
+mod table;
