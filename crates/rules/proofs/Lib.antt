@@ -1,2 +1,4 @@
 pub mod Logic
 pub mod Loops
+pub mod Sound
+pub mod Steps

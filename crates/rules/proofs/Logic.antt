@@ -2,7 +2,10 @@
 use mathlib.Core.Path.{_≡_, refl, sym, _∙_, ap}
 use mathlib.Core.Bool.{Bool, true, false, cond, _&&_, _||_, not}
 use Prim.Native.Nat.{ℕ}
+use native.Mathlib.Nat.{le-trans}
 use native.Mathlib.Omega.{arith}
+use lib.Dec.{leb}
+use borrow.Author.Tests.{leb-true, le-leb}
 use Rattle.rules.specs.declared.Found.{Found}
 use Rattle.rules.specs.declared.Found.the-variants.{At, Nothing}
 use Rattle.rules.specs.Below.{among}
@@ -82,3 +85,6 @@ then-and {x} {a} {b} {r} e t h = h ∙ sym (ap (λ (z : Bool). z && b) (sym e �
 
 pub else-and : {x a : Bool} (b : Bool) → x ≡ a → x ≡ false → false ≡ (a && b)
 else-and b e f = sym (ap (λ (z : Bool). z && b) (sym e ∙ f))
+
+pub leb-trans : (a b c : ℕ) → leb a b ≡ true → leb b c ≡ true → leb a c ≡ true
+leb-trans a b c p q = le-leb a c (le-trans (leb-true a b p) (leb-true b c q))

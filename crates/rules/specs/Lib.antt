@@ -8,3 +8,4 @@ pub mod Cover
 pub mod Decide
 pub mod Route
 pub mod Refuse
+pub mod Demand
