@@ -1,19 +1,16 @@
 -- What the tests of a header say, case by case: its length, its target, and whether it is fine. Assumes nothing.
-use mathlib.Core.Path.{_≡_, refl, sym, _∙_}
+use mathlib.Core.Path.{_≡_, refl}
 use mathlib.Core.Bool.{Bool, true, false, cond, _&&_, _||_, not}
 use mathlib.Core.List.{List}
 use Prim.Native.Nat.{ℕ, _+_, _≤_, _<_}
 use native.Mathlib.Omega.{arith}
 use borrow.Author.Tests.{eq-eqb, ne-eqb}
-use lib.Dec.{eqb}
 use lib.ListN.{length}
-use Rattle.rules.specs.declared.Target.{Target}
 use Rattle.rules.specs.declared.Target.the-variants.{Address, Id}
 use Rattle.rules.specs.declared.Tlp.{Tlp}
 use Rattle.rules.specs.Bytes.{byte}
 use Rattle.rules.specs.Tlp.{isRequest, isCompletion, isLong, headerLength, addressBytes, address, crosses, headerFine, targetOf, tlpOf}
 use Rattle.rules.proofs.Logic.{and-right-false}
-use Rattle.tlp.specs.declared.Read.{Read}
 use Rattle.tlp.specs.declared.Read.the-variants.{Good, Bad}
 use Rattle.tlp.specs.Header.{headerRead}
 

@@ -49,6 +49,7 @@ fn is_long(form: u8) -> bool
     (form == 0x20) | (form == 0x60)
 }
 
+// A long header has a, another b.
 fn choose(long: bool, a: usize, b: usize) -> usize
     ensures { λ r. ⌜ r ≡ cond long a b ⌝ }
 {
@@ -120,9 +121,12 @@ fn tlp_of(h: &[u8], place: u64) -> Tlp
     requires { ⌜ (12 ≤ length (now h)) × (place ≡ address (now h)) ⌝ }
     ensures { λ r. ⌜ r ≡ tlpOf (now (h .entry)) ⌝ }
 {
+    let form = h[0];
+    let request = is_request(form);
+    let read = is_read(form);
     Tlp {
-        request: is_request(h[0]),
-        owed: is_read(h[0]),
+        request,
+        owed: read,
         straight: (h[2] >> 5) % 2 == 1,
         translation: h[2] / 4 % 4,
         bus: Bus(h[4]),

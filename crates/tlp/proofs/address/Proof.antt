@@ -11,4 +11,4 @@ unfolding address
 address-spec = tie.close (tie.spec
     (λ c. search needs) (λ c κs. search needs)
     (λ c κs. address-room (byte (c .before .before .before .args .h .now) 0) (c .address-bytes .ensures) (c .before .before .before .pre .1))
-    (λ c. search needs) (λ c. cc))
+    (λ c. search needs) (λ c. simp (c .be .ensures, c .before .address-bytes .ensures)))

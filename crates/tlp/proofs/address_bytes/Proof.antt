@@ -5,4 +5,4 @@ use Rattle.tlp.proofs.address_bytes.Tie as tie
 
 pub address-bytes-spec : {M : Type 1} → statement M
 address-bytes-spec = tie.close (tie.spec
-    (λ c κs. search needs) (λ c κs. search needs) (λ c. cc))
+    (λ c κs. search needs) (λ c κs. search needs) (λ c. simp (c .choose .ensures, c .before .is-long .ensures)))

@@ -16,7 +16,15 @@ be-spec = tie.close (tie.spec
     (λ c. omega (arith, fits (c .before .loop .k) (c .before .loop .sum) 0 (search needs) (c .before .loop .inv .2) (search needs)))
     (λ c. search needs) (λ c. search needs)
     (λ c. omega (arith, c .shared-slice-known .given (c .before .before .before .args .at + c .before .before .loop .k)))
-    (λ c. record { fits = fits (c .before .before .loop .k) _ _ (search needs) (c .before .before .loop .inv .2) (c .shared-slice-known .given (c .before .before .before .args .at + c .before .before .loop .k) .fits) })
+    (λ c. record {
+      fits = fits (c .before .before .loop .k) _ _ (search needs) (c .before .before .loop .inv .2)
+          (c .shared-slice-known .given (c .before .before .before .args .at + c .before .before .loop .k) .fits);
+    })
     (λ c. search needs) (λ c. search needs)
-    (λ c. (search needs, be-turn _ _ _ (c .before .before .loop .inv .1), room _ _ _ (c .before .before .loop .inv .2) (c .shared-slice-known .given (c .before .before .before .args .at + c .before .before .loop .k) .fits)))
+    (λ c. (
+      search needs,
+      be-turn _ _ _ (c .before .before .loop .inv .1),
+      room _ _ _ (c .before .before .loop .inv .2)
+          (c .shared-slice-known .given (c .before .before .before .args .at + c .before .before .loop .k) .fits),
+    ))
     (λ c. be-end _ _ _ _ (c .before .loop .inv .1) (search needs) (search needs)))

@@ -7,4 +7,4 @@ use Rattle.tlp.proofs.crosses.Tie as tie
 pub crosses-spec : {M : Type 1} → statement M
 unfolding crosses
 crosses-spec = tie.close (tie.spec
-    (λ c κs. search needs) (λ c. search needs) (λ c. search needs) (λ c. search needs) (λ c. cc))
+    (λ c κs. search needs) (λ c. search needs) (λ c. search needs) (λ c. search needs) (λ c. simp (c .doublewords .ensures, c .before .before .pre .1)))

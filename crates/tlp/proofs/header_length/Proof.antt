@@ -5,4 +5,4 @@ use Rattle.tlp.proofs.header_length.Tie as tie
 
 pub header-length-spec : {M : Type 1} → statement M
 header-length-spec = tie.close (tie.spec
-    (λ c κs. search needs) (λ c κs. search needs) (λ c. cc))
+    (λ c κs. search needs) (λ c κs. search needs) (λ c. simp (c .choose .ensures, c .before .is-long .ensures)))

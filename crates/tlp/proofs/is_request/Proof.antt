@@ -5,4 +5,4 @@ use Rattle.tlp.proofs.is_request.Tie as tie
 
 pub is-request-spec : {M : Type 1} → statement M
 is-request-spec = tie.close (tie.spec
-    (λ c κs. search needs) (λ c κs. search needs) (λ c. cc))
+    (λ c κs. search needs) (λ c κs. search needs) (λ c. simp (c .before .is-read .ensures, c .is-write .ensures)))

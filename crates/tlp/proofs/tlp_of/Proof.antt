@@ -7,5 +7,6 @@ use Rattle.tlp.proofs.tlp_of.Tie as tie
 pub tlp-of-spec : {M : Type 1} → statement M
 unfolding tlpOf
 tlp-of-spec = tie.close (tie.spec
-    (λ c. search needs) (λ c κs. search needs) (λ c. search needs) (λ c κs. search needs) (λ c. search needs) (λ c. search needs) (λ c. search needs)
-    (λ c κs. search needs) (λ c. cc))
+    (λ c. search needs) (λ c κs. search needs) (λ c κs. search needs) (λ c. search needs) (λ c. search needs) (λ c. search needs)
+    (λ c κs. search needs)
+    (λ c. simp (c .target-of .ensures, c .before .before .before .before .is-read .ensures, c .before .before .before .before .before .is-request .ensures)))
