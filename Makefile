@@ -65,19 +65,25 @@ help:
 	@echo 'make snapshots   write the sample snapshots anew'
 	@echo 'make clean       remove build/ and independent/target/'
 
+# What make builds is in build/, which git leaves alone. (target/ is rt's: rt ci
+# removes it, the archive with it.)
+build/.gitignore:
+	@mkdir -p build
+	@echo '*' > $@
+
 # ---- The archive ----
 
 # Only the default archive is made here; another one has to be there.
 ifeq ($(origin ACS_LIB),file)
-$(ACS_LIB): crates.txt $(shell find crates -name '*.rt' -o -name '*.antt')
-	@mkdir -p build
+$(ACS_LIB): crates.txt $(shell find crates -name '*.rt' -o -name '*.antt') \
+            | build/.gitignore
 	@echo 'rt staticlib acs: proves the library and writes $@; this takes a while'
 	@$(RT) staticlib acs > build/staticlib.log 2>&1 \
 	    || { tail -n 20 build/staticlib.log; echo 'all of it is in build/staticlib.log'; exit 1; }
 	@tail -n 1 build/staticlib.log
 endif
 
-lib: $(ACS_LIB) include/acs.h
+lib: $(ACS_LIB) include/acs.h | build/.gitignore
 	install -d build/dist/lib build/dist/include
 	install -m 644 $(ACS_LIB) build/dist/lib/libacs.a
 	install -m 644 include/acs.h build/dist/include/acs.h
@@ -98,8 +104,7 @@ uninstall:
 
 # Programs are built again where the archive, the compiler or its flags are others.
 SETTING = $(ACS_LIB) $(CC) $(CPPFLAGS) $(CFLAGS) $(LDFLAGS) $(LDLIBS)
-build/setting: FORCE
-	@mkdir -p build
+build/setting: FORCE | build/.gitignore
 	@echo '$(SETTING)' | cmp -s - $@ || echo '$(SETTING)' > $@
 
 COMMON := examples/words.c examples/words.h include/acs.h

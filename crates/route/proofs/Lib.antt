@@ -1,3 +1,4 @@
 pub mod Covering
 pub mod Deciding
 pub mod Laid
+pub mod Sinking

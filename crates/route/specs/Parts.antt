@@ -3,11 +3,14 @@ use mathlib.Core.Bool.{Bool, _&&_}
 use Prim.Native.Nat.{ℕ}
 use lib.Dec.{eqb}
 use Rattle.rules.specs.declared.Handling.{Handling}
+use Rattle.rules.specs.declared.Landing.the-variants.{Nobody}
+use Rattle.rules.specs.declared.Down.{Down}
+use Rattle.rules.specs.declared.Down.the-variants.{Into, Below}
 use Rattle.rules.specs.declared.Move.{Move}
 use Rattle.rules.specs.declared.Tlp.{Tlp}
 use Rattle.rules.specs.Below.{among}
 use Rattle.rules.specs.Fabric.{Shape, Setting}
-use Rattle.rules.specs.Cover.{peerOf}
+use Rattle.rules.specs.Cover.{peerOf, wayOn}
 use Rattle.rules.specs.Decide.{handling, vectorNumber, toPeer, onward}
 
 -- T on and AT 2
@@ -20,3 +23,7 @@ byTable sh st p q = handling (st .e p) (st .r p) (st .vector p (vectorNumber sh 
 -- steps 4 to 6
 abbrev pub elsewhere : Shape → Setting → Tlp → ℕ → Move
 elsewhere sh st t p = among (peerOf sh t p) (toPeer sh st t p) (onward sh t p)
+
+-- on through the kind 2 node c
+abbrev pub throughSwitch : Shape → Tlp → ℕ → Down
+throughSwitch sh t c = among (wayOn sh t c) Into (Below (Nobody c))

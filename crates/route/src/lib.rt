@@ -2,4 +2,5 @@
 mod cover;
 mod decide;
 mod hops;
+mod down;
 mod table;
