@@ -2,3 +2,4 @@ pub mod Covering
 pub mod Deciding
 pub mod Laid
 pub mod Sinking
+pub mod Rising

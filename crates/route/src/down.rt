@@ -19,6 +19,7 @@ ghost use Rattle.route.specs.Laid.{puts};
 ghost use Rattle.route.specs.Told.{sunkFrom};
 
 const DOWNWARD: u8 = 6;
+
 const ENDS_HERE: u8 = 7;
 
 // Where a way down came to, and the number of the hop that would follow.

@@ -1,6 +1,7 @@
 // Covering, the decision at one port, the way up, the way down and the hops.
 mod cover;
 mod decide;
-mod hops;
 mod down;
+mod hops;
 mod table;
+mod up;
