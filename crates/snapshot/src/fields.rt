@@ -1,0 +1,189 @@
+// The snapshot's fields, a reader to each. A header's field asks for the 24 bytes of the header, a
+// record's for the whole record.
+use rules::Bus;
+use rules::PortNumber;
+use words::Acs;
+ghost use mathlib.Core.Path.{_≡_};
+ghost use Prim.Native.Nat.{_+_, _*_, _≤_, _<_};
+ghost use lib.ListN.{length};
+ghost use Rattle.rules.specs.Snapshot as snapshot;
+ghost use Rattle.rules.specs.Fabric as fabric;
+
+pub fn flags(s: &[u8]) -> u8
+    requires { ⌜ 24 ≤ length (now s) ⌝ }
+    ensures { λ r. ⌜ r ≡ snapshot.flags (now (s .entry)) ⌝ }
+{
+    s[3]
+}
+
+// Root ports may reach each other.
+pub fn roots_reach(s: &[u8]) -> bool
+    requires { ⌜ 24 ≤ length (now s) ⌝ }
+    ensures { λ r. ⌜ r ≡ snapshot.rootsReach (now (s .entry)) ⌝ }
+{
+    (s[3] >> 0) % 2 == 1
+}
+
+// Redirected request validation reflects, else it blocks.
+pub fn validation_reflects(s: &[u8]) -> bool
+    requires { ⌜ 24 ≤ length (now s) ⌝ }
+    ensures { λ r. ⌜ r ≡ snapshot.validationReflects (now (s .entry)) ⌝ }
+{
+    (s[3] >> 1) % 2 == 1
+}
+
+pub fn version(s: &[u8]) -> u16
+    requires { ⌜ 24 ≤ length (now s) ⌝ }
+    ensures { λ r. ⌜ r ≡ snapshot.version (now (s .entry)) ⌝ }
+{
+    words::le_u16(s, 4)
+}
+
+pub fn count(s: &[u8]) -> u16
+    requires { ⌜ 24 ≤ length (now s) ⌝ }
+    ensures { λ r. ⌜ r ≡ snapshot.count (now (s .entry)) ⌝ }
+{
+    words::le_u16(s, 6)
+}
+
+pub fn taken(s: &[u8]) -> u64
+    requires { ⌜ 24 ≤ length (now s) ⌝ }
+    ensures { λ r. ⌜ r ≡ snapshot.taken (now (s .entry)) ⌝ }
+{
+    words::le_u64(s, 8)
+}
+
+pub fn good_until(s: &[u8]) -> u64
+    requires { ⌜ 24 ≤ length (now s) ⌝ }
+    ensures { λ r. ⌜ r ≡ snapshot.goodUntil (now (s .entry)) ⌝ }
+{
+    words::le_u64(s, 16)
+}
+
+pub fn kind(s: &[u8], i: u16) -> u8
+    requires { ⌜ 168 + 144 * i ≤ length (now s) ⌝ }
+    ensures { λ r. ⌜ r ≡ snapshot.kind (now (s .entry)) i ⌝ }
+{
+    s[24 + 144 * (i as usize)]
+}
+
+pub fn port_number(s: &[u8], i: u16) -> PortNumber
+    requires { ⌜ 168 + 144 * i ≤ length (now s) ⌝ }
+    ensures { λ r. ⌜ r .0 ≡ snapshot.portNumber (now (s .entry)) i ⌝ }
+{
+    PortNumber(s[24 + 144 * (i as usize) + 1])
+}
+
+// The parent's index; FFFFh for a root port.
+pub fn parent(s: &[u8], i: u16) -> u16
+    requires { ⌜ 168 + 144 * i ≤ length (now s) ⌝ }
+    ensures { λ r. ⌜ r ≡ snapshot.parent (now (s .entry)) i ⌝ }
+{
+    words::le_u16(s, 24 + 144 * (i as usize) + 2)
+}
+
+pub fn own_bus(s: &[u8], i: u16) -> Bus
+    requires { ⌜ 168 + 144 * i ≤ length (now s) ⌝ }
+    ensures { λ r. ⌜ r .0 ≡ snapshot.ownBus (now (s .entry)) i ⌝ }
+{
+    Bus(s[24 + 144 * (i as usize) + 4])
+}
+
+// Device and function.
+pub fn place(s: &[u8], i: u16) -> u8
+    requires { ⌜ 168 + 144 * i ≤ length (now s) ⌝ }
+    ensures { λ r. ⌜ r ≡ snapshot.place (now (s .entry)) i ⌝ }
+{
+    s[24 + 144 * (i as usize) + 5]
+}
+
+pub fn secondary(s: &[u8], i: u16) -> Bus
+    requires { ⌜ 168 + 144 * i ≤ length (now s) ⌝ }
+    ensures { λ r. ⌜ r .0 ≡ snapshot.secondary (now (s .entry)) i ⌝ }
+{
+    Bus(s[24 + 144 * (i as usize) + 6])
+}
+
+pub fn subordinate(s: &[u8], i: u16) -> Bus
+    requires { ⌜ 168 + 144 * i ≤ length (now s) ⌝ }
+    ensures { λ r. ⌜ r .0 ≡ snapshot.subordinate (now (s .entry)) i ⌝ }
+{
+    Bus(s[24 + 144 * (i as usize) + 7])
+}
+
+pub fn capability(s: &[u8], i: u16) -> Acs
+    requires { ⌜ 168 + 144 * i ≤ length (now s) ⌝ }
+    ensures { λ r. ⌜ r .0 ≡ snapshot.capability (now (s .entry)) i ⌝ }
+{
+    Acs(words::le_u16(s, 24 + 144 * (i as usize) + 8))
+}
+
+pub fn control(s: &[u8], i: u16) -> Acs
+    requires { ⌜ 168 + 144 * i ≤ length (now s) ⌝ }
+    ensures { λ r. ⌜ r .0 ≡ snapshot.control (now (s .entry)) i ⌝ }
+{
+    Acs(words::le_u16(s, 24 + 144 * (i as usize) + 10))
+}
+
+// The peer's bit of the Egress Control Vector.
+pub fn vector_bit(s: &[u8], i: u16, peer: PortNumber) -> bool
+    requires { ⌜ 168 + 144 * i ≤ length (now s) ⌝ }
+    ensures { λ r. ⌜ r ≡ snapshot.vectorBit (now (s .entry)) i (peer .0) ⌝ }
+{
+    words::vector_bit(
+        s,
+        24 + 144 * (i as usize) + 16,
+        capability(s, i).size(),
+        peer,
+    )
+}
+
+// The first address of range k.
+pub fn first(s: &[u8], i: u16, k: u16) -> u64
+    requires { ⌜ (168 + 144 * i ≤ length (now s)) × (k < 6) ⌝ }
+    ensures { λ r. ⌜ r ≡ snapshot.first (now (s .entry)) i k ⌝ }
+{
+    words::le_u64(s, 24 + 144 * (i as usize) + 48 + 16 * (k as usize))
+}
+
+// The last address of range k.
+pub fn last(s: &[u8], i: u16, k: u16) -> u64
+    requires { ⌜ (168 + 144 * i ≤ length (now s)) × (k < 6) ⌝ }
+    ensures { λ r. ⌜ r ≡ snapshot.last (now (s .entry)) i k ⌝ }
+{
+    words::le_u64(s, 24 + 144 * (i as usize) + 56 + 16 * (k as usize))
+}
+
+pub fn closed(first: u64, last: u64) -> bool
+    ensures { λ r. ⌜ r ≡ snapshot.closed first last ⌝ }
+{
+    (first == 1) & (last == 0)
+}
+
+pub fn is_open(s: &[u8], i: u16, k: u16) -> bool
+    requires { ⌜ (168 + 144 * i ≤ length (now s)) × (k < 6) ⌝ }
+    ensures { λ r. ⌜ r ≡ snapshot.isOpen (now (s .entry)) i k ⌝ }
+{
+    !closed(first(s, i, k), last(s, i, k))
+}
+
+// The address is in open range k. A closed range, (1, 0), has none between its ends, so that the
+// ends alone decide.
+pub fn in_range(s: &[u8], i: u16, a: u64, k: u16) -> bool
+    requires { ⌜ (168 + 144 * i ≤ length (now s)) × (k < 6) ⌝ }
+    ensures { λ r. ⌜ r ≡ fabric.inRange (now (s .entry)) i a k ⌝ }
+{
+    (first(s, i, k) <= a) & (a <= last(s, i, k))
+}
+
+// The address is in an open range.
+pub fn holds(s: &[u8], i: u16, a: u64) -> bool
+    requires { ⌜ 168 + 144 * i ≤ length (now s) ⌝ }
+    ensures { λ r. ⌜ r ≡ fabric.holds (now (s .entry)) i a ⌝ }
+{
+    let mut found = false;
+    for k in 0..6 {
+        found = found | in_range(s, i, a, k);
+    }
+    found
+}
