@@ -1,5 +1,5 @@
 -- Every record but a root port stands under an earlier one. Assumes nothing.
-use mathlib.Core.Path.{_≡_, sym, _∙_, ap}
+use mathlib.Core.Path.{_≡_}
 use mathlib.Core.Bool.{Bool, true, false}
 use mathlib.Core.List.{List}
 use Prim.Native.Nat.{ℕ, _<_}
@@ -8,10 +8,6 @@ use borrow.Author.Tests.{ltb-true}
 use Rattle.rules.specs.Snapshot.{kind, parent, isRoot}
 use Rattle.rules.specs.Records.{standsUnder, parentFine}
 use Rattle.rules.proofs.Logic.{both}
-
--- what a test of a value says of an equal one
-pub tested : {A : Type 0} (f : A → Bool) {b v : Bool} {x y : A} → b ≡ f x → x ≡ y → b ≡ v → f y ≡ v
-tested f p q r = sym (p ∙ ap f q) ∙ r
 
 pub lower : (s : List ℕ) (i : ℕ) → parentFine s i ≡ true → isRoot (kind s i) ≡ false → parent s i < i
 unfolding parentFine

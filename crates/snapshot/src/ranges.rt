@@ -57,7 +57,8 @@ pub fn overlap(s: &[u8], i: u16, k: u16, j: u16, m: u16) -> bool
     ensures { λ r. ⌜ r ≡ overlap (now (s .entry)) i k j m ⌝ }
 {
     is_open(s, i, k)
-        & (is_open(s, j, m) & ((first(s, i, k) <= last(s, j, m)) & (first(s, j, m) <= last(s, i, k))))
+        & (is_open(s, j, m)
+            & ((first(s, i, k) <= last(s, j, m)) & (first(s, j, m) <= last(s, i, k))))
 }
 
 // Range k of i overlaps one of the first n of j: a closed range is done at once.
