@@ -1,6 +1,7 @@
 // Numbers, bits and the mark in byte slices; powers of two.
 mod acs;
 mod numbers;
+mod powers;
 
 pub use acs::Acs;
 pub use acs::vector_bit;
@@ -8,3 +9,4 @@ pub use numbers::has_mark;
 pub use numbers::is_zero;
 pub use numbers::le_u16;
 pub use numbers::le_u64;
+pub use powers::span_fine;

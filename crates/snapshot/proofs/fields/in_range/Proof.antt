@@ -1,6 +1,6 @@
 -- `snapshot::fields::in_range` meets its contract by what its callees ensure. Assumes nothing.
 use borrow.Author.Needs.{needs}
-use Rattle.snapshot.proofs.Ranges.{in-range}
+use Rattle.snapshot.proofs.Ends.{in-range}
 use Rattle.snapshot.proofs.fields.in_range.Statement.{statement}
 use Rattle.snapshot.proofs.fields.in_range.Tie as tie
 

@@ -1,5 +1,5 @@
--- A closed range has no address between its ends, so that the ends alone decide. Assumes nothing.
-use mathlib.Core.Path.{_≡_, _∙_, ap₂}
+-- A closed range has no address between its ends, so that the ends alone decide, and it overlaps none. Assumes nothing.
+use mathlib.Core.Path.{_≡_, sym, _∙_, ap₂}
 use mathlib.Core.List.{List}
 use mathlib.Core.Bool.{Bool, true, false, _&&_, not}
 use Prim.Native.Nat.{ℕ, _≤_}
@@ -7,8 +7,11 @@ use native.Mathlib.Omega.{arith}
 use lib.Dec.{eqb, leb}
 use borrow.Author.Tests.{eqb-true, leb-true}
 use Rattle.rules.specs.Snapshot.{first, last, closed}
+use Rattle.rules.specs.Below.{anyBelow}
+use Rattle.rules.specs.Records.{overlap}
 use Rattle.rules.specs.Fabric.{inRange}
-use Rattle.rules.proofs.Logic.{both, and-both, either, same-test}
+use Rattle.rules.proofs.Logic.{clash, both, and-both, either, same-test}
+use Rattle.rules.proofs.Loops.{Some, any-some}
 
 pub ends-decide : (f l a : ℕ) → (leb f a && leb a l) ≡ (not (closed f l) && (leb f a && leb a l))
 ends-decide f l a =
@@ -25,3 +28,11 @@ ends-decide f l a =
 pub in-range : (s : List ℕ) (i a k : ℕ) {f l : ℕ} → f ≡ first s i k → l ≡ last s i k → (leb f a && leb a l) ≡ inRange s i a k
 unfolding inRange
 in-range s i a k p q = ap₂ (λ (f l : ℕ). leb f a && leb a l) p q ∙ ends-decide (first s i k) (last s i k) a
+
+-- a closed range overlaps none
+pub closed-none : (s : List ℕ) (i k j n : ℕ) → closed (first s i k) (last s i k) ≡ true → false ≡ anyBelow n (overlap s i k j)
+unfolding overlap
+closed-none s i k j n e = sym (either (anyBelow n (overlap s i k j)) (λ p. none (any-some n (overlap s i k j) p)) (λ q. q))
+  where
+    none : Some n (overlap s i k j) → anyBelow n (overlap s i k j) ≡ false
+    none w = clash (w .passes) (rw e)

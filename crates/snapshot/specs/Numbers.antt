@@ -1,0 +1,27 @@
+-- Document 01's numbers for the cases of the code's answers.
+use Prim.Native.Nat.{ℕ}
+use Rattle.rules.specs.declared.Found.{Found}
+use Rattle.rules.specs.declared.Found.the-variants.{At, Nothing}
+use Rattle.rules.specs.Refuse.{Result, refused, answered}
+use Rattle.snapshot.specs.declared.answers.Refusal.{Refusal}
+use Rattle.snapshot.specs.declared.answers.Refusal.the-variants.{Malformed, Version, Time, Faulty, Origin, Header, Room}
+use Rattle.snapshot.specs.declared.answers.Check.{Check}
+use Rattle.snapshot.specs.declared.answers.Check.the-variants.{Accepted, Refused}
+
+abbrev pub numberOf : Refusal → ℕ
+numberOf Malformed = 1
+numberOf Version = 2
+numberOf Time = 3
+numberOf Faulty = 4
+numberOf Origin = 5
+numberOf Header = 6
+numberOf Room = 7
+
+abbrev pub checkedAs : Check → Result (Unit {0})
+checkedAs Accepted = answered tt
+checkedAs (Refused why i) = refused (numberOf why) i
+
+-- the check's last answer, by what the search for a faulty record gives
+abbrev pub refusedIf : Found → Check
+refusedIf (At i) = Refused Faulty i
+refusedIf Nothing = Accepted

@@ -1,0 +1,50 @@
+// Rules between a record and its earlier siblings.
+use crate::buses::buses_meet;
+use crate::buses::numbers_meet;
+use crate::fields::kind;
+use crate::fields::parent;
+use crate::kinds::is_endpoint;
+use crate::kinds::is_upstream;
+use crate::ranges::ranges_meet;
+ghost use mathlib.Core.Path.{_≡_};
+ghost use mathlib.Core.Bool.{_||_};
+ghost use Prim.Native.Nat.{_+_, _*_, _≤_, _<_};
+ghost use lib.ListN.{length};
+ghost use Rattle.rules.specs.Records.{standsAlone, busesMeet, numbersMeet, rangesMeet, clash, clashes};
+ghost use Rattle.rules.specs.Snapshot as snapshot;
+
+fn stands_alone(kind: u8) -> bool
+    ensures { λ r. ⌜ r ≡ standsAlone kind ⌝ }
+{
+    is_upstream(kind) | is_endpoint(kind)
+}
+
+// Two siblings have what siblings may not have of each other.
+fn at_odds(s: &[u8], i: u16, j: u16) -> bool
+    requires { ⌜ (168 + 144 * i ≤ length (now s)) × (168 + 144 * j ≤ length (now s)) ⌝ }
+    ensures { λ r. ⌜ r ≡ (standsAlone (snapshot.kind (now (s .entry)) i) || busesMeet (now (s .entry)) i j || numbersMeet (now (s .entry)) i j || rangesMeet (now (s .entry)) i j) ⌝ }
+{
+    stands_alone(kind(s, i)) | buses_meet(s, i, j) | numbers_meet(s, i, j) | ranges_meet(s, i, j)
+}
+
+// Most pairs of records are no siblings, and are done with one look at the parents.
+pub fn clash(s: &[u8], i: u16, j: u16) -> bool
+    requires { ⌜ (168 + 144 * i ≤ length (now s)) × (168 + 144 * j ≤ length (now s)) ⌝ }
+    ensures { λ r. ⌜ r ≡ clash (now (s .entry)) i j ⌝ }
+{
+    if parent(s, i) == parent(s, j) {
+        return at_odds(s, i, j);
+    }
+    false
+}
+
+pub fn clashes(s: &[u8], i: u16) -> bool
+    requires { ⌜ 168 + 144 * i ≤ length (now s) ⌝ }
+    ensures { λ r. ⌜ r ≡ clashes (now (s .entry)) i ⌝ }
+{
+    let mut found = false;
+    for j in 0..i {
+        found = found | clash(s, i, j);
+    }
+    found
+}
