@@ -139,6 +139,16 @@ landed-answerable : (x : Landing) → (landsAt x ≡ complex → ⊥) → Answer
 landed-answerable (Arrives i) h = refl
 landed-answerable (Nobody i) h = h
 
+-- a reflected TLP that is delivered is checked
+pub checked-validated : (sh : Shape) (t : Tlp) → unvalidated (fromTop sh t true .end) ≡ false
+unfolding fromTop
+checked-validated sh t =
+    among-case (λ (r : Trip). unvalidated (r .end) ≡ false) (entryFor sh t) (λ q _. landed-validated (down sh t q .landing)) (λ _. refl)
+  where
+    landed-validated : (x : Landing) → unvalidated (landed true x) ≡ false
+    landed-validated (Arrives i) = refl
+    landed-validated (Nobody i) = refl
+
 pub answerable-validated : (e : Outcome) → Answerable e → unvalidated e ≡ false
 answerable-validated (Delivered i checked) h = rw h
 answerable-validated Host h = refl

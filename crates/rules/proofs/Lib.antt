@@ -4,3 +4,8 @@ pub mod Sound
 pub mod Steps
 pub mod Accepted
 pub mod Covered
+pub mod Alike
+pub mod Tighter
+pub mod Strict
+pub mod Entered
+pub mod Theorems
