@@ -7,5 +7,6 @@ pub mod Covered
 pub mod Alike
 pub mod Tighter
 pub mod Strict
+pub mod Hops
 pub mod Entered
 pub mod Theorems
