@@ -1,9 +1,8 @@
 -- What an answer tells of the tests before it: the refusal table read backwards. Assumes nothing.
-use mathlib.Core.Path.{_≡_, refl, sym, _∙_, ap, subst}
+use mathlib.Core.Path.{_≡_, refl, sym, _∙_, subst}
 use mathlib.Core.Bool.{Bool, true, false}
 use mathlib.Core.List.{List, [], _∷_}
 use Prim.Native.Nat.{ℕ, _≤_, _<_}
-use native.Mathlib.Nat.{le-trans}
 use native.Mathlib.Omega.{arith}
 use lib.Dec.{lit≤}
 use Rattle.rules.specs.declared.Found.{Found}
@@ -11,7 +10,7 @@ use Rattle.rules.specs.declared.Found.the-variants.{At, Nothing}
 use Rattle.rules.specs.Records.{lowestFaulty}
 use Rattle.rules.specs.Tlp.{headerFine}
 use Rattle.rules.specs.Route.{Trip}
-use Rattle.rules.specs.Refuse.{Gate, passes, refuses, unless, unlessFound, Result, refused, answered, through, begun, knownVersion, wellMade, inTime, isOrigin, readGates, queryGates, fits, checked, routed, result}
+use Rattle.rules.specs.Refuse.{Gate, unless, unlessFound, Result, refused, answered, through, begun, knownVersion, wellMade, inTime, isOrigin, readGates, queryGates, fits, checked, routed, result}
 
 -- a result that no test with a number up to n gave
 abbrev pub Past : {A : Type 0} → ℕ → Result A → Type 0
@@ -90,7 +89,7 @@ accepted-read s now h = read-open s (answered tt) now (answered tt) tt h .0
 module _ (s : List ℕ) (now o : ℕ) (h : List ℕ) (room : ℕ) where
   -- past tests 1 to 6 only the room is left to test
   pub result-past : (y : Result Trip) → Past 6 y → result s now o h room ≡ y
-    → Readable s now × Askable s o h × (through (unless (fits (routed s o h) room) 7 ∷ []) (answered (routed s o h)) ≡ y)
+      → Readable s now × Askable s o h × (through (unless (fits (routed s o h) room) 7 ∷ []) (answered (routed s o h)) ≡ y)
   unfolding result
   result-past y n e =
       let (a, e1) = read-open s _ now y (past-less 4 6 (lit≤ tt) y n) e in

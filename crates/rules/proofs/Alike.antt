@@ -1,17 +1,16 @@
 -- Two snapshots that are alike have one shape. Assumes nothing.
-use mathlib.Core.Path.{_≡_, refl, sym, _∙_, ap, ap₂, subst}
-use mathlib.Core.Bool.{Bool, true, false, _&&_, _||_, not}
+use mathlib.Core.Path.{_≡_, refl, ap₂}
+use mathlib.Core.Bool.{false}
 use mathlib.Core.List.{List}
 use Prim.Native.Nat.{ℕ, zero, suc, _+_, _*_, _-_, _%_, _≤_, _<_}
 use native.Mathlib.Omega.{arith}
-use lib.Dec.{eqb, leb, ltb}
+use lib.Dec.{leb}
 use borrow.Author.Tests.{lt-leb}
-use Rattle.rules.specs.Below.{anyBelow}
-use Rattle.rules.specs.Bytes.{byte, le, bit, within}
-use Rattle.rules.specs.Snapshot.{base, count, kind, portNumber, parent, ownBus, place, secondary, subordinate, capability, first, last, isOpen, rootsReach, validationReflects, isEndpoint}
-use Rattle.rules.specs.Fabric.{Shape, inRange, holds, shapeOf}
+use Rattle.rules.specs.Bytes.{byte, le, bit}
+use Rattle.rules.specs.Snapshot.{base, count, kind, portNumber, parent, ownBus, place, secondary, subordinate, capability, first, last, rootsReach}
+use Rattle.rules.specs.Fabric.{inRange, holds, shapeOf}
 use Rattle.rules.specs.Refuse.{isOrigin}
-use Rattle.rules.specs.Tight.{settingByte, isSetting, Alike}
+use Rattle.rules.specs.Tight.{settingByte, Alike}
 use Rattle.rules.proofs.Logic.{and-left-false, and-right-false}
 use Rattle.rules.proofs.Loops.{any-same}
 
@@ -83,19 +82,19 @@ module _ (old new : List ℕ) (alike : Alike old new) where
   pub same-shape : shapeOf old ≡ shapeOf new
   unfolding shapeOf
   same-shape = λ d.
-    record {
-      count = same-count d;
-      kind = λ i. same-kind i d;
-      portNumber = λ i. same-port-number i d;
-      parent = λ i. same-parent i d;
-      ownBus = λ i. same-own-bus i d;
-      place = λ i. same-place i d;
-      secondary = λ i. same-secondary i d;
-      subordinate = λ i. same-subordinate i d;
-      holds = λ i a. same-holds i a d;
-      rootsReach = bit 0 (header-byte 3 (omega arith) d);
-      reflects = λ t. bit 1 (header-byte 3 (omega arith) d);
-    }
+      record {
+        count = same-count d;
+        kind = λ i. same-kind i d;
+        portNumber = λ i. same-port-number i d;
+        parent = λ i. same-parent i d;
+        ownBus = λ i. same-own-bus i d;
+        place = λ i. same-place i d;
+        secondary = λ i. same-secondary i d;
+        subordinate = λ i. same-subordinate i d;
+        holds = λ i a. same-holds i a d;
+        rootsReach = bit 0 (header-byte 3 (omega arith) d);
+        reflects = λ t. bit 1 (header-byte 3 (omega arith) d);
+      }
 
   pub same-origin : (o : ℕ) → isOrigin old o ≡ isOrigin new o
   unfolding isOrigin

@@ -59,14 +59,14 @@ origin-case s o h f g =
     or-case (eqb o complex) (ltb o (count s) && isEndpoint (kind s o)) h f
     (λ p. let (a, b) = both (ltb o (count s)) (isEndpoint (kind s o)) p in g (ltb-true _ _ a, b))
 
-host-route : (s : List ℕ) (o : ℕ) (h : List ℕ) → eqb o complex ≡ true → routed s o h ≡ fromTop (shapeOf s) (tlpOf h) false
+pub host-route : (s : List ℕ) (o : ℕ) (h : List ℕ) → eqb o complex ≡ true → routed s o h ≡ fromTop (shapeOf s) (tlpOf h) false
 unfolding routed route
 host-route s o h e = rw e
 
 module _ (s : List ℕ) (now o : ℕ) (h : List ℕ) (room : ℕ) (r : Trip) (ans : result s now o h room ≡ answered r) (P : Trip → Type 0) where
   -- what holds of every way up holds of the answer to an endpoint
   pub endpoint-answer : IsEndpoint s o
-    → (Fit s → (p : ℕ) → p < shapeOf s .count → isPort (shapeOf s .kind p) ≡ true → P (up (shapeOf s) (settingOf s) (tlpOf h) p)) → P r
+      → (Fit s → (p : ℕ) → p < shapeOf s .count → isPort (shapeOf s .kind p) ≡ true → P (up (shapeOf s) (settingOf s) (tlpOf h) p)) → P r
   endpoint-answer e f =
       let a : Accepted s now o h room r = result-accepted s now o h room r ans in
       let fit : Fit s = readable-fit s now (a .read) in
@@ -75,7 +75,7 @@ module _ (s : List ℕ) (now o : ℕ) (h : List ℕ) (room : ℕ) (r : Trip) (an
 
   -- and with the way from the top, of every answer
   pub any-answer : P (fromTop (shapeOf s) (tlpOf h) false)
-    → (Fit s → (p : ℕ) → p < shapeOf s .count → isPort (shapeOf s .kind p) ≡ true → P (up (shapeOf s) (settingOf s) (tlpOf h) p)) → P r
+      → (Fit s → (p : ℕ) → p < shapeOf s .count → isPort (shapeOf s .kind p) ≡ true → P (up (shapeOf s) (settingOf s) (tlpOf h) p)) → P r
   any-answer top f =
       let a : Accepted s now o h room r = result-accepted s now o h room r ans in
       origin-case s o (a .asked .origin) (λ host. subst P (sym (host-route s o h host) ∙ a .route-is) top) (λ e. endpoint-answer e f)

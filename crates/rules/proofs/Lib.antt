@@ -8,5 +8,6 @@ pub mod Alike
 pub mod Tighter
 pub mod Strict
 pub mod Hops
+pub mod Unique
 pub mod Entered
 pub mod Theorems

@@ -86,9 +86,9 @@ module _ (sh : Shape) (t : Tlp) where
       cond-case (Leads sh t p) (isEndpoint (sh .kind c)) (λ _. tt) λ n.
       among-case (Leads sh t p) (wayOn sh t c)
       (λ q h.
-        let (_, l, x) = found-after sh c (isWayOn sh t c) q b h in
-        let (y, z) = both (eqb (sh .parent q) c) (covers sh t q) x in
-        record { via = c; via-present = b; via-below = e; via-passes = n; present = l; below = eqb-true _ _ y; covering = z })
+      let (_, l, x) = found-after sh c (isWayOn sh t c) q b h in
+      let (y, z) = both (eqb (sh .parent q) c) (covers sh t q) x in
+      record { via = c; via-present = b; via-below = e; via-passes = n; present = l; below = eqb-true _ _ y; covering = z })
       (λ _. tt)
 
   pub next-leads : (p : ℕ) → p < sh .count → Leads sh t p (nextDown sh t p)

@@ -1,24 +1,22 @@
 -- Settings of every port under which nothing is undefined, and nothing is delivered unvalidated. Assumes nothing.
-use mathlib.Core.Path.{_≡_, refl, sym, _∙_, ap, subst}
-use mathlib.Core.Bool.{Bool, true, false, cond, _&&_, _||_, not}
+use mathlib.Core.Path.{_≡_, refl, sym, _∙_}
+use mathlib.Core.Bool.{Bool, true, false}
 use mathlib.Core.List.{List}
 use Prim.Native.Nat.{ℕ, _<_}
-use native.Mathlib.Omega.{arith}
 use lib.Dec.{eqb}
 use borrow.Author.Tests.{eqb-true}
-use Rattle.rules.specs.declared.Handling.{Handling}
-use Rattle.rules.specs.declared.Handling.the-variants.{Direct, Redirect}
+use Rattle.rules.specs.declared.Handling.the-variants.{Redirect}
 use Rattle.rules.specs.declared.Landing.{Landing}
 use Rattle.rules.specs.declared.Landing.the-variants.{Arrives, Nobody}
 use Rattle.rules.specs.declared.Tlp.{Tlp}
 use Rattle.rules.specs.Snapshot.{isPort}
-use Rattle.rules.specs.Fabric.{Shape, Setting, shapeOf, settingOf}
+use Rattle.rules.specs.Fabric.{Shape, shapeOf, settingOf}
 use Rattle.rules.specs.Cover.{entryFor}
-use Rattle.rules.specs.Decide.{badTranslation, handling, vectorNumber, peerHandling, decide}
+use Rattle.rules.specs.Decide.{badTranslation, peerHandling}
 use Rattle.rules.specs.Route.{Trip, landed, down, fromTop, hopUp, up}
 use Rattle.rules.specs.Demand.{WellFormed, EveryU, LockedAt, Locked, unvalidated, isUndefined}
-use Rattle.rules.proofs.Logic.{clash, among-case, and-both, and-right-false, either, implies, not-true, not-false, redirect-no-direct}
-use Rattle.rules.proofs.Steps.{Passed, DecideCases, decide-case, up-induction}
+use Rattle.rules.proofs.Logic.{clash, among-case, and-both, and-right-false, implies, redirect-no-direct}
+use Rattle.rules.proofs.Steps.{decide-case, up-induction}
 use Rattle.rules.proofs.Covered.{checked-validated}
 
 -- a way down is never undefined
@@ -33,17 +31,24 @@ top-defined sh t c =
 
 module _ (s : List ℕ) (t : Tlp) (wf : WellFormed (shapeOf s)) where
   pub up-defined : EveryU s → (p : ℕ) → p < shapeOf s .count → isPort (shapeOf s .kind p) ≡ true
-    → isUndefined (up (shapeOf s) (settingOf s) t p .end) ≡ false
+      → isUndefined (up (shapeOf s) (settingOf s) t p .end) ≡ false
   unfolding shapeOf settingOf
   up-defined every =
       up-induction (shapeOf s) (settingOf s) t wf (λ p r. isUndefined (r .end) ≡ false) λ p l k rec.
       decide-case (shapeOf s) (settingOf s) t p l k (λ m. isUndefined (hopUp (shapeOf s) t p m (up (shapeOf s) (settingOf s) t) .end) ≡ false)
       (record {
-        by-v = λ _. refl; by-b = λ _ _. refl; undefined = λ _ _ off. clash (every p (l, k)) off;
-        sent-up = λ _ _ _ _ _ r. rec r; blocked = λ _ _ _ _ _. refl; reflects = λ _ _ _ _ _. top-defined (shapeOf s) t true;
-        by-e = λ _ _ _ _ _. refl; apart = λ _ _ _ _ _ _. refl;
+        by-v = λ _. refl;
+        by-b = λ _ _. refl;
+        undefined = λ _ _ off. clash (every p (l, k)) off;
+        sent-up = λ _ _ _ _ _ r. rec r;
+        blocked = λ _ _ _ _ _. refl;
+        reflects = λ _ _ _ _ _. top-defined (shapeOf s) t true;
+        by-e = λ _ _ _ _ _. refl;
+        apart = λ _ _ _ _ _ _. refl;
         across = λ _ _ q _ _ _. landed-defined false (down (shapeOf s) t q .landing);
-        to-host = λ _ _ _ _. refl; at-parent = λ _ _ _ _ _. refl; addressed = λ _ _ _ r _. rec r;
+        to-host = λ _ _ _ _. refl;
+        at-parent = λ _ _ _ _ _. refl;
+        addressed = λ _ _ _ r _. rec r;
       })
 
   module _ (req : t .request ≡ true) where
@@ -60,15 +65,22 @@ module _ (s : List ℕ) (t : Tlp) (wf : WellFormed (shapeOf s)) where
         rw (req, and-right-false (settingOf s .t p) (eqb (t .translation) 2) (untranslated p (lock .b) ok), lock .e, lock .r)
 
     pub up-locked : Locked s → (p : ℕ) → p < shapeOf s .count → isPort (shapeOf s .kind p) ≡ true
-      → unvalidated (up (shapeOf s) (settingOf s) t p .end) ≡ false
+        → unvalidated (up (shapeOf s) (settingOf s) t p .end) ≡ false
     unfolding shapeOf
     up-locked locked =
         up-induction (shapeOf s) (settingOf s) t wf (λ p r. unvalidated (r .end) ≡ false) λ p l k rec.
         decide-case (shapeOf s) (settingOf s) t p l k (λ m. unvalidated (hopUp (shapeOf s) t p m (up (shapeOf s) (settingOf s) t) .end) ≡ false)
         (record {
-          by-v = λ _. refl; by-b = λ _ _. refl; undefined = λ _ _ _. refl;
-          sent-up = λ _ _ _ _ _ r. rec r; blocked = λ _ _ _ _ _. refl; reflects = λ _ _ _ _ _. checked-validated (shapeOf s) t;
-          by-e = λ _ _ _ _ _. refl; apart = λ _ _ _ _ _ _. refl;
+          by-v = λ _. refl;
+          by-b = λ _ _. refl;
+          undefined = λ _ _ _. refl;
+          sent-up = λ _ _ _ _ _ r. rec r;
+          blocked = λ _ _ _ _ _. refl;
+          reflects = λ _ _ _ _ _. checked-validated (shapeOf s) t;
+          by-e = λ _ _ _ _ _. refl;
+          apart = λ _ _ _ _ _ _. refl;
           across = λ ok _ q _ d _. redirect-no-direct (sym (never-direct p q (locked p (l, k)) (ok .translation)) ∙ d);
-          to-host = λ _ _ _ _. refl; at-parent = λ _ _ _ _ _. refl; addressed = λ _ _ _ r _. rec r;
+          to-host = λ _ _ _ _. refl;
+          at-parent = λ _ _ _ _ _. refl;
+          addressed = λ _ _ _ r _. rec r;
         })

@@ -10,6 +10,8 @@ use Rattle.rules.specs.declared.Outcome.the-variants.{Delivered, Host, U
 use Rattle.rules.specs.Bytes.{byte, bit}
 use Rattle.rules.specs.Snapshot.{count, kind, control, isRoot, isUpstream, isDownstream, isEndpoint, isPort, bitV, bitB, bitR, bitU, bitE}
 use Rattle.rules.specs.Fabric.{Shape}
+use Rattle.rules.specs.declared.Tlp.{Tlp}
+use Rattle.rules.specs.Cover.{covers, isPeer, isEntry, isChild, isWayOn}
 use Rattle.rules.specs.Decide.{complex, redirectedUp, upByU}
 use Rattle.rules.specs.Route.{Hop}
 
@@ -23,13 +25,28 @@ pub record WellFormed (sh : Shape) : Type 0 where
   pub under-port : (i : ℕ) → i < sh .count → isPort (sh .kind i) ≡ false → isPort (sh .kind (sh .parent i)) ≡ true
   -- an address that a record's ranges have its parent's windows have
   pub holds-above : (i : ℕ) → i < sh .count → isRoot (sh .kind i) ≡ false
-    → (a : ℕ) → sh .holds i a ≡ true → sh .holds (sh .parent i) a ≡ true
+      → (a : ℕ) → sh .holds i a ≡ true → sh .holds (sh .parent i) a ≡ true
   -- own bus is the parent's secondary; a bridge's buses lie above it, and inside the parent's
   pub own-bus : (i : ℕ) → i < sh .count → isRoot (sh .kind i) ≡ false → sh .ownBus i ≡ sh .secondary (sh .parent i)
   pub buses : (i : ℕ) → i < sh .count → isEndpoint (sh .kind i) ≡ false
-    → (sh .ownBus i < sh .secondary i) × (sh .secondary i ≤ sh .subordinate i)
+      → (sh .ownBus i < sh .secondary i) × (sh .secondary i ≤ sh .subordinate i)
   pub buses-above : (i : ℕ) → i < sh .count → isRoot (sh .kind i) ≡ false → isEndpoint (sh .kind i) ≡ false
-    → sh .subordinate i ≤ sh .subordinate (sh .parent i)
+      → sh .subordinate i ≤ sh .subordinate (sh .parent i)
+
+-- No search has a choice: at most one record passes the test of each.
+pub record OneWay (sh : Shape) (t : Tlp) : Type 0 where
+  -- at most one sibling covers a TLP, port or not
+  pub sibling : (i j : ℕ) → i < sh .count → j < sh .count → sh .parent i ≡ sh .parent j
+      → covers sh t i ≡ true → covers sh t j ≡ true → i ≡ j
+  -- at most one sibling port of p covers it
+  pub peer : (p q r : ℕ) → q < sh .count → r < sh .count → isPeer sh t p q ≡ true → isPeer sh t p r ≡ true → q ≡ r
+  -- at most one root port covers it
+  pub entry : (q r : ℕ) → q < sh .count → r < sh .count → isEntry sh t q ≡ true → isEntry sh t r ≡ true → q ≡ r
+  -- at most one port under the kind 2 node c covers it
+  pub way-on : (c q r : ℕ) → q < sh .count → r < sh .count → isWayOn sh t c q ≡ true → isWayOn sh t c r ≡ true → q ≡ r
+  -- a port has at most one child
+  pub child : (p b c : ℕ) → p < sh .count → isPort (sh .kind p) ≡ true
+      → b < sh .count → c < sh .count → isChild sh t p b ≡ true → isChild sh t p c ≡ true → b ≡ c
 
 -- every element is a byte
 abbrev pub AreBytes : List ℕ → Type 0
