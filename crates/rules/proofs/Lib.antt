@@ -2,3 +2,12 @@ pub mod Logic
 pub mod Loops
 pub mod Sound
 pub mod Steps
+pub mod Accepted
+pub mod Covered
+pub mod Alike
+pub mod Tighter
+pub mod Strict
+pub mod Hops
+pub mod Unique
+pub mod Entered
+pub mod Theorems

@@ -8,6 +8,7 @@ use lib.Dec.{leb}
 use borrow.Author.Tests.{leb-true, le-leb}
 use Rattle.rules.specs.declared.Found.{Found}
 use Rattle.rules.specs.declared.Found.the-variants.{At, Nothing}
+use Rattle.rules.specs.declared.Handling.the-variants.{Direct, Redirect, Violation}
 use Rattle.rules.specs.Below.{among}
 
 -- a test cannot both pass and fail
@@ -88,3 +89,10 @@ else-and b e f = sym (ap (λ (z : Bool). z && b) (sym e ∙ f))
 
 pub leb-trans : (a b c : ℕ) → leb a b ≡ true → leb b c ≡ true → leb a c ≡ true
 leb-trans a b c p q = le-leb a c (le-trans (leb-true a b p) (leb-true b c q))
+
+-- handlings told apart
+pub redirect-no-direct : {A : Type 0} → Redirect ≡ Direct → A
+redirect-no-direct e = let z : _≡_ {A = ℕ} 0 1 = cc in absurd (omega arith)
+
+pub violation-no-direct : {A : Type 0} → Violation ≡ Direct → A
+violation-no-direct e = let z : _≡_ {A = ℕ} 0 1 = cc in absurd (omega arith)

@@ -53,6 +53,11 @@ some-any (suc n) f j l h = or-case-lt (some-any n f j) h
 pub any-false : (n : ℕ) (f : ℕ → Bool) → anyBelow n f ≡ false → (j : ℕ) → j < n → f j ≡ false
 any-false n f h j l = either (f j) (λ p. clash (some-any n f j l p) h) (λ q. q)
 
+pub any-same : (f g : ℕ → Bool) (n : ℕ) → ((j : ℕ) → j < n → f j ≡ g j) → anyBelow n f ≡ anyBelow n g
+unfolding anyBelow
+any-same f g zero h = refl
+any-same f g (suc n) h = rw (any-same f g n (λ j l. h j (omega arith)), h n (omega arith))
+
 -- allBelow
 
 pub all-none : (f : ℕ → Bool) → allBelow 0 f ≡ true

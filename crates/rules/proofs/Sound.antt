@@ -34,17 +34,21 @@ downstream-port k p r = or-case (isRoot k) (isDownstream k) p (λ q. clash q r) 
 pub downstream-no-root : (k : ℕ) → isDownstream k ≡ true → isRoot k ≡ false
 downstream-no-root k d = let e : k ≡ 3 = eqb-true _ _ d in ne-eqb k 1 (λ z. omega arith)
 
-bridge : (k : ℕ) → 1 ≤ k → k ≤ 4 → isEndpoint k ≡ false → isBridge k ≡ true
+pub port-no-endpoint : (k : ℕ) → isPort k ≡ true → isEndpoint k ≡ false
+port-no-endpoint k h =
+    or-case (isRoot k) (isDownstream k) h (λ r. let e : k ≡ 1 = eqb-true _ _ r in rw e) (λ d. let e : k ≡ 3 = eqb-true _ _ d in rw e)
+
+pub bridge : (k : ℕ) → 1 ≤ k → k ≤ 4 → isEndpoint k ≡ false → isBridge k ≡ true
 bridge k a b n =
     let d : k ≡ 4 → ⊥ = eqb-false _ _ n in and-both (le-leb 1 k a) (le-leb k 3 (omega (arith, d)))
 
 module _ (s : List ℕ) (i : ℕ) (ok : fine s i ≡ true) where
   -- rule k of document 01's order
-  rule : (k : ℕ) → getD (rules s i) k true ≡ true
+  pub rule : (k : ℕ) → getD (rules s i) k true ≡ true
   unfolding fine
   rule k = all-of-at (rules s i) ok k
 
-  kind-range : (1 ≤ kind s i) × (kind s i ≤ 4)
+  pub kind-range : (1 ≤ kind s i) × (kind s i ≤ 4)
   unfolding kindFine
   kind-range =
       let w = both (leb 1 (kind s i)) (leb (kind s i) 4) (both (within 1 (kind s i) 4) _ (rule 0) .0) in

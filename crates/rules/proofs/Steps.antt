@@ -48,6 +48,21 @@ Sinks n p (Into q) = (p + 1 < q) × (q < n)
 Sinks n p (Below l) = (p < landsAt l) × (landsAt l < n)
 Sinks n p Alone = Unit {0}
 
+-- port q stands under a child of port p, and covers the TLP
+pub record Passes (sh : Shape) (t : Tlp) (p q : ℕ) : Type 0 where
+  pub via : ℕ
+  pub via-present : via < sh .count
+  pub via-below : sh .parent via ≡ p
+  pub via-passes : isEndpoint (sh .kind via) ≡ false
+  pub present : q < sh .count
+  pub below : sh .parent q ≡ via
+  pub covering : covers sh t q ≡ true
+
+abbrev pub Leads : Shape → Tlp → ℕ → Down → Type 0
+Leads sh t p (Into q) = Passes sh t p q
+Leads sh t p (Below l) = Unit {0}
+Leads sh t p Alone = Unit {0}
+
 module _ (sh : Shape) (t : Tlp) where
   child-sinks : (p c : ℕ) → p < c → c < sh .count → Sinks (sh .count) p (throughChild sh t c)
   unfolding throughChild wayOn
@@ -63,6 +78,24 @@ module _ (sh : Shape) (t : Tlp) where
   next-sinks p l =
       among-case (Sinks (sh .count) p) (childFor sh t p)
       (λ c e. let x = found-after sh p (isChild sh t p) c l e in child-sinks p c (x .0) (x .1)) (λ _. tt)
+
+  way-on-from : (p c : ℕ) → p < c → c < sh .count → sh .parent c ≡ p → Leads sh t p (throughChild sh t c)
+  unfolding throughChild wayOn isWayOn
+  way-on-from p c a b e =
+      cond-case (Leads sh t p) (not (covers sh t c)) (λ _. tt) λ _.
+      cond-case (Leads sh t p) (isEndpoint (sh .kind c)) (λ _. tt) λ n.
+      among-case (Leads sh t p) (wayOn sh t c)
+      (λ q h.
+      let (_, l, x) = found-after sh c (isWayOn sh t c) q b h in
+      let (y, z) = both (eqb (sh .parent q) c) (covers sh t q) x in
+      record { via = c; via-present = b; via-below = e; via-passes = n; present = l; below = eqb-true _ _ y; covering = z })
+      (λ _. tt)
+
+  pub next-leads : (p : ℕ) → p < sh .count → Leads sh t p (nextDown sh t p)
+  unfolding nextDown childFor isChild
+  next-leads p l =
+      among-case (Leads sh t p) (childFor sh t p)
+      (λ c h. let (a, b, x) = found-after sh p (isChild sh t p) c l h in way-on-from p c a b (eqb-true _ _ x)) (λ _. tt)
 
   hop-same : (n p : ℕ) (d : Down) (on on′ : ℕ → Way) → Sinks n p d → ((q : ℕ) → p < q → q < n → on q ≡ on′ q)
       → hopDown p d on ≡ hopDown p d on′
@@ -247,7 +280,7 @@ down-induction sh t Q h p l = go (sh .count) p l (omega arith)
     go (suc n) p l b = subst (Q p) (sym (down-step sh t p l)) (h p l (λ q m k. go n q k (omega arith)))
 
 pub up-induction : (sh : Shape) (st : Setting) (t : Tlp) → WellFormed sh → (Q : ℕ → Trip → Type 0)
-    → ((p : ℕ) → p < sh .count → isPort (sh .kind p) ≡ true → (Ascends sh p → Q (above sh p) (up sh st t (above sh p)))
+    → ((p : ℕ) → p < sh .count → isPort (sh .kind p) ≡ true → (isRoot (sh .kind p) ≡ false → Q (above sh p) (up sh st t (above sh p)))
     → Q p (hopUp sh t p (decide sh st t p) (up sh st t)))
     → (p : ℕ) → p < sh .count → isPort (sh .kind p) ≡ true → Q p (up sh st t p)
 up-induction sh st t wf Q h p l k = go (suc p) p l k (omega arith)
@@ -255,4 +288,4 @@ up-induction sh st t wf Q h p l k = go (suc p) p l k (omega arith)
     go : (n p : ℕ) → p < sh .count → isPort (sh .kind p) ≡ true → p < n → Q p (up sh st t p)
     go zero p l k b = absurd (omega arith)
     go (suc n) p l k b =
-        subst (Q p) (sym (up-step sh st t wf p l k)) (h p l k (λ x. go n (above sh p) (x .present) (x .port) (omega arith)))
+        subst (Q p) (sym (up-step sh st t wf p l k)) (h p l k (λ r. let x : Ascends sh p = ascends sh wf p l k r in go n (above sh p) (x .present) (x .port) (omega arith)))

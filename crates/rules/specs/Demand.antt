@@ -1,9 +1,19 @@
--- What the theorems speak of: what accepted records are to each other.
+-- What the theorems speak of: what accepted records are to each other, settings of a whole snapshot, and ends of a route.
 use mathlib.Core.Path.{_≡_}
-use mathlib.Core.Bool.{true, false}
+use mathlib.Core.Bool.{Bool, true, false, _||_, not}
+use mathlib.Core.List.{List, [], _∷_}
 use Prim.Native.Nat.{ℕ, _≤_, _<_}
-use Rattle.rules.specs.Snapshot.{isRoot, isUpstream, isDownstream, isEndpoint, isPort}
+use lib.Dec.{eqb}
+use Rattle.rules.specs.declared.Letter.the-variants.{Egress}
+use Rattle.rules.specs.declared.Outcome.{Outcome}
+use Rattle.rules.specs.declared.Outcome.the-variants.{Delivered, Host, Unclaimed, Undefined, Violated}
+use Rattle.rules.specs.Bytes.{byte, bit}
+use Rattle.rules.specs.Snapshot.{count, kind, control, isRoot, isUpstream, isDownstream, isEndpoint, isPort, bitV, bitB, bitR, bitU, bitE}
 use Rattle.rules.specs.Fabric.{Shape}
+use Rattle.rules.specs.declared.Tlp.{Tlp}
+use Rattle.rules.specs.Cover.{covers, isPeer, isEntry, isChild, isWayOn}
+use Rattle.rules.specs.Decide.{complex, redirectedUp, upByU}
+use Rattle.rules.specs.Route.{Hop}
 
 -- What the record rules give of every record, as routing sees it.
 pub record WellFormed (sh : Shape) : Type 0 where
@@ -22,3 +32,78 @@ pub record WellFormed (sh : Shape) : Type 0 where
       → (sh .ownBus i < sh .secondary i) × (sh .secondary i ≤ sh .subordinate i)
   pub buses-above : (i : ℕ) → i < sh .count → isRoot (sh .kind i) ≡ false → isEndpoint (sh .kind i) ≡ false
       → sh .subordinate i ≤ sh .subordinate (sh .parent i)
+
+-- No search has a choice: at most one record passes the test of each.
+pub record OneWay (sh : Shape) (t : Tlp) : Type 0 where
+  -- at most one sibling covers a TLP, port or not
+  pub sibling : (i j : ℕ) → i < sh .count → j < sh .count → sh .parent i ≡ sh .parent j
+      → covers sh t i ≡ true → covers sh t j ≡ true → i ≡ j
+  -- at most one sibling port of p covers it
+  pub peer : (p q r : ℕ) → q < sh .count → r < sh .count → isPeer sh t p q ≡ true → isPeer sh t p r ≡ true → q ≡ r
+  -- at most one root port covers it
+  pub entry : (q r : ℕ) → q < sh .count → r < sh .count → isEntry sh t q ≡ true → isEntry sh t r ≡ true → q ≡ r
+  -- at most one port under the kind 2 node c covers it
+  pub way-on : (c q r : ℕ) → q < sh .count → r < sh .count → isWayOn sh t c q ≡ true → isWayOn sh t c r ≡ true → q ≡ r
+  -- a port has at most one child
+  pub child : (p b c : ℕ) → p < sh .count → isPort (sh .kind p) ≡ true
+      → b < sh .count → c < sh .count → isChild sh t p b ≡ true → isChild sh t p c ≡ true → b ≡ c
+
+-- every element is a byte
+abbrev pub AreBytes : List ℕ → Type 0
+AreBytes s = (k : ℕ) → byte s k < 256
+
+-- o is the index of an endpoint
+abbrev pub IsEndpoint : List ℕ → ℕ → Type 0
+IsEndpoint s o = (o < count s) × (isEndpoint (kind s o) ≡ true)
+
+-- record p is a root port or a switch downstream port
+abbrev pub IsPort : List ℕ → ℕ → Type 0
+IsPort s p = (p < count s) × (isPort (kind s p) ≡ true)
+
+-- Control bit k is on at port p
+abbrev pub isOn : List ℕ → ℕ → ℕ → Bool
+isOn s k p = bit k (control s p)
+
+-- U is on at every root and downstream port
+abbrev pub EveryU : List ℕ → Type 0
+EveryU s = (p : ℕ) → IsPort s p → isOn s bitU p ≡ true
+
+-- The lock at port p: U is on, and V, B and R are on and E is off besides.
+pub record LockedAt (s : List ℕ) (p : ℕ) : Type 0 where
+  pub u : isOn s bitU p ≡ true
+  pub v : isOn s bitV p ≡ true
+  pub b : isOn s bitB p ≡ true
+  pub r : isOn s bitR p ≡ true
+  pub e : isOn s bitE p ≡ false
+
+abbrev pub Locked : List ℕ → Type 0
+Locked s = (p : ℕ) → IsPort s p → LockedAt s p
+
+-- a delivery that is not checked is unvalidated
+abbrev pub unvalidated : Outcome → Bool
+unvalidated (Delivered i checked) = not checked
+unvalidated Host = false
+unvalidated (Unclaimed i) = false
+unvalidated (Undefined i) = false
+unvalidated (Violated letter p abort) = false
+
+abbrev pub isUndefined : Outcome → Bool
+isUndefined (Delivered i checked) = false
+isUndefined Host = false
+isUndefined (Unclaimed i) = false
+isUndefined (Undefined i) = true
+isUndefined (Violated letter p abort) = false
+
+-- some hop was redirected up, or up by U
+abbrev pub wasSentUp : List Hop → Bool
+wasSentUp [] = false
+wasSentUp (h ∷ l) = eqb (h .action) redirectedUp || eqb (h .action) upByU || wasSentUp l
+
+-- The ends of a TLP that was sent up: a checked delivery, unclaimed at a record below the root complex that reflected it,
+-- violation V, B or X, or undefined; not the host, and no delivery that is unvalidated.
+abbrev pub Answerable : Outcome → Type 0
+Answerable (Delivered i checked) = checked ≡ true
+Answerable Host = ⊥
+Answerable (Unclaimed i) = i ≡ complex → ⊥
+Answerable (Undefined i) = Unit {0}
+Answerable (Violated letter p abort) = letter ≡ Egress → ⊥

@@ -9,3 +9,5 @@ pub mod Decide
 pub mod Route
 pub mod Refuse
 pub mod Demand
+pub mod Tight
+pub mod Bound
