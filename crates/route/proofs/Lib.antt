@@ -3,3 +3,4 @@ pub mod Deciding
 pub mod Laid
 pub mod Sinking
 pub mod Rising
+pub mod Answering

@@ -1,5 +1,6 @@
--- Parts of the decision that a function of their own works out.
+-- Parts of the decision and of the answer that a function of their own works out.
 use mathlib.Core.Bool.{Bool, _&&_}
+use mathlib.Core.List.{List, [], _∷_}
 use Prim.Native.Nat.{ℕ}
 use lib.Dec.{eqb}
 use Rattle.rules.specs.declared.Handling.{Handling}
@@ -11,6 +12,8 @@ use Rattle.rules.specs.declared.Tlp.{Tlp}
 use Rattle.rules.specs.Below.{among}
 use Rattle.rules.specs.Fabric.{Shape, Setting}
 use Rattle.rules.specs.Cover.{peerOf, wayOn}
+use Rattle.rules.specs.Route.{Trip}
+use Rattle.rules.specs.Refuse.{Result, answered, through, unless, fits, queryGates, routed}
 use Rattle.rules.specs.Decide.{handling, vectorNumber, toPeer, onward}
 
 -- T on and AT 2
@@ -27,3 +30,11 @@ elsewhere sh st t p = among (peerOf sh t p) (toPeer sh st t p) (onward sh t p)
 -- on through the kind 2 node c
 abbrev pub throughSwitch : Shape → Tlp → ℕ → Down
 throughSwitch sh t c = among (wayOn sh t c) Into (Below (Nobody c))
+
+-- refusal 7, of a route that is known
+abbrev pub finished : Trip → ℕ → Result Trip
+finished r room = through (unless (fits r room) 7 ∷ []) (answered r)
+
+-- refusals 5 to 7
+abbrev pub asked : List ℕ → ℕ → List ℕ → ℕ → Result Trip
+asked s o h room = through (queryGates s o h) (finished (routed s o h) room)

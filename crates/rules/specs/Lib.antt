@@ -11,3 +11,4 @@ pub mod Refuse
 pub mod Demand
 pub mod Tight
 pub mod Bound
+pub mod Word
