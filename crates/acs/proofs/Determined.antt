@@ -1,0 +1,13 @@
+-- Inputs alone determine the answer word and the last bytes of the buffer: whatever meets the promise gives the same. There is no
+-- exception. Assumes nothing.
+use mathlib.Core.Path.{_≡_, sym, _∙_}
+use mathlib.Core.List.{List}
+use Prim.Native.Nat.{ℕ}
+use Rattle.acs.specs.Promise.{Checked, Routed}
+
+pub check-determined : (snapshot : List ℕ) (now a b : ℕ) → Checked snapshot now a → Checked snapshot now b → a ≡ b
+check-determined snapshot now a b p q = p .says ∙ sym (q .says)
+
+pub route-determined : (snapshot : List ℕ) (now origin : ℕ) (header before : List ℕ) (a b : ℕ) (x y : List ℕ)
+    → Routed snapshot now origin header before a x → Routed snapshot now origin header before b y → (a ≡ b) × (x ≡ y)
+route-determined snapshot now origin header before a b x y p q = (p .says ∙ sym (q .says), p .leaves ∙ sym (q .leaves))

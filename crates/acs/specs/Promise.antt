@@ -1,0 +1,28 @@
+-- What the two calls promise, for all inputs. No call asks anything of its caller.
+use mathlib.Core.Path.{_≡_}
+use mathlib.Core.List.{List}
+use Prim.Native.Nat.{ℕ}
+use lib.ListN.{length}
+use Rattle.rules.specs.Refuse.{checked, result, written}
+use Rattle.rules.specs.Word.{tells, wordOf, checkWord}
+use Rattle.snapshot.specs.declared.answers.Check.{Check}
+use Rattle.snapshot.specs.Numbers.{checkedAs}
+use Rattle.route.specs.declared.answer.Answer.{Answer}
+use Rattle.route.specs.Told.{toldOf}
+
+-- acs_check: the word is 0 for an accepted snapshot, else it has the refusal's number and index
+pub record Checked (snapshot : List ℕ) (now word : ℕ) : Type 0 where
+  pub says : word ≡ checkWord (checked snapshot now)
+
+-- acs_route: the word has kind, refusal number or violation letter, node or index, hop count and abort of the answer, and the
+-- buffer ends as the answer leaves it
+pub record Routed (snapshot : List ℕ) (now origin : ℕ) (header before : List ℕ) (word : ℕ) (after : List ℕ) : Type 0 where
+  pub says : word ≡ wordOf (tells (result snapshot now origin header (length before)))
+  pub leaves : after ≡ written (result snapshot now origin header (length before)) before
+
+-- the words of the answers that the code is given
+abbrev pub answerWord : Answer → ℕ
+answerWord a = wordOf (toldOf a)
+
+abbrev pub checkedWord : Check → ℕ
+checkedWord c = checkWord (checkedAs c)

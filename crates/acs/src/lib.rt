@@ -1,0 +1,111 @@
+// The C interface: check and route on numbers and byte slices, each answer one word.
+use route::answer::Answer;
+use route::answer::route;
+use rules::Letter;
+use rules::Outcome;
+use snapshot::answers::Check;
+use snapshot::answers::Refusal;
+use snapshot::check::check;
+ghost use mathlib.Core.Path.{_≡_};
+ghost use mathlib.Core.Bool.{cond};
+ghost use Prim.Native.Nat.{_+_, _*_, _^_};
+ghost use lib.ListN.{length};
+ghost use Rattle.rules.specs.Word.{letterNumber, tellsEnd, wordOf, told};
+ghost use Rattle.snapshot.specs.Numbers.{numberOf};
+ghost use Rattle.acs.specs.Promise.{answerWord, checkedWord, Checked, Routed};
+
+const COMPLEX: u16 = 0xFFFF;
+
+fn one_if(b: bool) -> u8
+    ensures { λ r. ⌜ r ≡ cond b 1 0 ⌝ }
+{
+    if b { 1 } else { 0 }
+}
+
+// The eight bytes of the answer word, from the low one up.
+fn word(kind: u8, detail: u8, node: u16, count: u16, abort: u8) -> u64
+    ensures { λ r. ⌜ r ≡ wordOf (told kind detail node count abort) ⌝ }
+{
+    (kind as u64)
+        + 0x100 * (detail as u64)
+        + 0x10000 * (node as u64)
+        + 0x100000000 * (count as u64)
+        + 0x1000000000000 * (abort as u64)
+}
+
+fn letter_number(l: Letter) -> u8
+    ensures { λ r. ⌜ r ≡ letterNumber l ⌝ }
+{
+    match l {
+        Letter::Source => 0,
+        Letter::Translation => 1,
+        Letter::Egress => 5,
+        Letter::Validation => 7,
+    }
+}
+
+fn refusal_number(why: Refusal) -> u8
+    ensures { λ r. ⌜ r ≡ numberOf why ⌝ }
+{
+    match why {
+        Refusal::Malformed => 1,
+        Refusal::Version => 2,
+        Refusal::Time => 3,
+        Refusal::Faulty => 4,
+        Refusal::Origin => 5,
+        Refusal::Header => 6,
+        Refusal::Room => 7,
+    }
+}
+
+fn end_word(end: Outcome, count: u16) -> u64
+    ensures { λ r. ⌜ r ≡ wordOf (tellsEnd end count) ⌝ }
+{
+    match end {
+        Outcome::Delivered(i, checked) => word(one_if(checked), 0, i, count, 0),
+        Outcome::Host => word(2, 0, COMPLEX, count, 0),
+        Outcome::Unclaimed(i) => word(3, 0, i, count, 0),
+        Outcome::Undefined(i) => word(4, 0, i, count, 0),
+        Outcome::Violated(l, i, abort) => word(5, letter_number(l), i, count, one_if(abort)),
+    }
+}
+
+fn answer_word(a: Answer) -> u64
+    ensures { λ r. ⌜ r ≡ answerWord a ⌝ }
+{
+    match a {
+        Answer::Refused(why, i) => word(6, refusal_number(why), i, 0, 0),
+        Answer::Ended(end, count) => end_word(end, count),
+    }
+}
+
+fn check_word(c: Check) -> u64
+    ensures { λ r. ⌜ r ≡ checkedWord c ⌝ }
+{
+    match c {
+        Check::Accepted => 0,
+        Check::Refused(why, i) => word(6, refusal_number(why), i, 0, 0),
+    }
+}
+
+// 0 for an accepted snapshot, else the refusal word.
+#[no_mangle]
+pub extern "C" fn acs_check(snapshot: &[u8], time: u64) -> u64
+    ensures { λ r. ⌜ Checked (now (snapshot .entry)) time r ⌝ }
+{
+    check_word(check(snapshot, time))
+}
+
+// The answer word, with the hops from the start of `hops`; a refusal leaves every byte as it was.
+#[no_mangle]
+pub extern "C" fn acs_route(
+    snapshot: &[u8],
+    time: u64,
+    origin: u16,
+    header: &[u8],
+    hops: &mut [u8],
+) -> u64
+    ensures { λ r. ⌜ Routed (now (snapshot .entry)) time origin (now (header .entry)) (now (hops .entry)) r (now (hops .exit)) ⌝ }
+{
+    answer_word(route(snapshot, time, origin, header, hops))
+}
