@@ -11,9 +11,9 @@ use Rattle.rules.specs.declared.Found.the-variants.{Nothing}
 use Rattle.rules.specs.Below.{allOf, anyBelow}
 use Rattle.rules.specs.Bytes.{within}
 use Rattle.rules.specs.Snapshot.{count, kind, parent, ownBus, secondary, subordinate, first, last, isOpen, isRoot, isUpstream, isDownstream, isEndpoint, isPort, isBridge}
-use Rattle.rules.specs.Records.{kindFine, standsUnder, parentFine, ofParent, ownBusFine, busOrderFine, busesFine, inside, nestedFine, rules, fine, faulty, lowestFaulty}
+use Rattle.rules.specs.Records.{kindFine, standsUnder, parentFine, ofParent, ownBusFine, busOrderFine, busesFine, inside, nestedFine, clashes, rules, fine, faulty, lowestFaulty}
 use Rattle.rules.specs.Fabric.{inRange, holds, shapeOf}
-use Rattle.rules.specs.Demand.{WellFormed}
+use Rattle.rules.specs.Demand.{WellFormed, Nested}
 use Rattle.rules.proofs.Logic.{clash, leb-trans, both, and-both, or-case, not-true, not-false, or-false}
 use Rattle.rules.proofs.Loops.{Some, any-some, some-any, all-at, find-none}
 
@@ -44,23 +44,39 @@ bridge k a b n =
 
 module _ (s : List ℕ) (i : ℕ) (ok : fine s i ≡ true) where
   -- rule k of document 01's order
-  pub rule : (k : ℕ) → getD (rules s i) k true ≡ true
+  rule : (k : ℕ) → getD (rules s i) k true ≡ true
   unfolding fine
   rule k = all-of-at (rules s i) ok k
+
+  kind-rule : kindFine s i ≡ true
+  kind-rule = rule 0
+
+  parent-rule : parentFine s i ≡ true
+  parent-rule = rule 1
+
+  buses-rule : (ownBusFine s i && busOrderFine s i) ≡ true
+  unfolding busesFine
+  buses-rule = rule 3
+
+  nested-rule : nestedFine s i ≡ true
+  nested-rule = rule 6
+
+  pub clashes-rule : clashes s i ≡ false
+  clashes-rule = not-true (rule 8)
 
   pub kind-range : (1 ≤ kind s i) × (kind s i ≤ 4)
   unfolding kindFine
   kind-range =
-      let w = both (leb 1 (kind s i)) (leb (kind s i) 4) (both (within 1 (kind s i) 4) _ (rule 0) .0) in
+      let w = both (leb 1 (kind s i)) (leb (kind s i) 4) (both (within 1 (kind s i) 4) _ kind-rule .0) in
       (leb-true _ _ (w .0), leb-true _ _ (w .1))
 
   stands : isRoot (kind s i) ≡ false → (ltb (parent s i) i ≡ true) × (standsUnder (kind s i) (kind s (parent s i)) ≡ true)
   unfolding parentFine
-  stands r = both (ltb (parent s i) i) (standsUnder (kind s i) (kind s (parent s i))) (rw r at (rule 1))
+  stands r = both (ltb (parent s i) i) (standsUnder (kind s i) (kind s (parent s i))) (rw r at parent-rule)
 
   no-parent : isRoot (kind s i) ≡ true → parent s i ≡ 0xFFFF
   unfolding parentFine
-  no-parent r = eqb-true _ _ (rw r at (rule 1))
+  no-parent r = eqb-true _ _ (rw r at parent-rule)
 
   upstream-above : isDownstream (kind s i) ≡ true → isUpstream (kind s (parent s i)) ≡ true
   upstream-above d = rw d at (stands (downstream-no-root (kind s i) d) .1)
@@ -70,14 +86,12 @@ module _ (s : List ℕ) (i : ℕ) (ok : fine s i ≡ true) where
       let e = or-false (isRoot (kind s i)) (isDownstream (kind s i)) n in rw (e .1) at (stands (e .0) .1)
 
   own-bus-above : isRoot (kind s i) ≡ false → ownBus s i ≡ secondary s (parent s i)
-  unfolding busesFine
-  own-bus-above r = eqb-true _ _ (rw r at (both (ownBusFine s i) (busOrderFine s i) (rule 3) .0))
+  own-bus-above r = eqb-true _ _ (rw r at (both (ownBusFine s i) (busOrderFine s i) buses-rule .0))
 
   bus-order : isEndpoint (kind s i) ≡ false
       → ((ltb (ownBus s i) (secondary s i) && leb (secondary s i) (subordinate s i)) && leb (subordinate s i) (ofParent s i 255 subordinate)) ≡ true
-  unfolding busesFine
   bus-order n =
-      rw (bridge (kind s i) (kind-range .0) (kind-range .1) n) at (both (ownBusFine s i) (busOrderFine s i) (rule 3) .1)
+      rw (bridge (kind s i) (kind-range .0) (kind-range .1) n) at (both (ownBusFine s i) (busOrderFine s i) buses-rule .1)
 
   buses-in-order : isEndpoint (kind s i) ≡ false → (ownBus s i < secondary s i) × (secondary s i ≤ subordinate s i)
   buses-in-order n =
@@ -92,7 +106,7 @@ module _ (s : List ℕ) (i : ℕ) (ok : fine s i ≡ true) where
   unfolding nestedFine
   nested r k l o =
       or-case (not (isOpen s i k)) (anyBelow 2 (inside s i k (parent s i)))
-      (all-at 6 (λ k. not (isOpen s i k) || anyBelow 2 (inside s i k (parent s i))) (rw r at (rule 6)) k l)
+      (all-at 6 (λ k. not (isOpen s i k) || anyBelow 2 (inside s i k (parent s i))) (rw r at nested-rule) k l)
       (λ c. clash o (not-true c))
       (λ a. any-some 2 (inside s i k (parent s i)) a)
 
@@ -127,6 +141,12 @@ well-formed s ok =
       parentless = λ i l r. no-parent s i (ok i l) r;
       under-upstream = λ i l d. upstream-above s i (ok i l) d;
       under-port = λ i l n. port-above s i (ok i l) n;
+    }
+
+pub nested-covers : (s : List ℕ) → ((i : ℕ) → i < count s → fine s i ≡ true) → Nested (shapeOf s)
+unfolding shapeOf
+nested-covers s ok =
+    record {
       holds-above = λ i l r. holds-nest s i (ok i l) r;
       own-bus = λ i l r. own-bus-above s i (ok i l) r;
       buses = λ i l n. buses-in-order s i (ok i l) n;
@@ -135,3 +155,6 @@ well-formed s ok =
 
 pub no-fault-well-formed : (s : List ℕ) → lowestFaulty s ≡ Nothing → WellFormed (shapeOf s)
 no-fault-well-formed s h = well-formed s (all-fine s h)
+
+pub no-fault-nested : (s : List ℕ) → lowestFaulty s ≡ Nothing → Nested (shapeOf s)
+no-fault-nested s h = nested-covers s (all-fine s h)

@@ -18,7 +18,7 @@ use Rattle.rules.specs.Cover.{coversTarget, covers, isPeer, isEntry, isC
 use Rattle.rules.specs.Demand.{WellFormed, OneWay}
 use Rattle.rules.proofs.Logic.{clash, both, and-both, either, or-false, or-right, not-true, leb-trans}
 use Rattle.rules.proofs.Loops.{Some, any-some, some-any, any-false}
-use Rattle.rules.proofs.Sound.{downstream-port, port-no-endpoint, rule, kind-range, bridge}
+use Rattle.rules.proofs.Sound.{downstream-port, port-no-endpoint, clashes-rule, kind-range, bridge}
 
 -- what the rules say of a record and an earlier sibling
 record Apart (s : List ℕ) (i j : ℕ) : Type 0 where
@@ -29,7 +29,7 @@ record Apart (s : List ℕ) (i j : ℕ) : Type 0 where
 apart : (s : List ℕ) (i j : ℕ) → fine s i ≡ true → j < i → parent s i ≡ parent s j → Apart s i j
 unfolding clashes meet
 apart s i j ok l e =
-    let none : meet s i j ≡ false = any-false i (meet s i) (not-true (rule s i ok 8)) j l in
+    let none : meet s i j ≡ false = any-false i (meet s i) (clashes-rule s i ok) j l in
     let any : (standsAlone (kind s i) || busesMeet s i j || numbersMeet s i j || rangesMeet s i j) ≡ false = rw (eq-eqb _ _ e) at none in
     let (abc, d) = or-false (standsAlone (kind s i) || busesMeet s i j || numbersMeet s i j) (rangesMeet s i j) any in
     let (ab, _) = or-false (standsAlone (kind s i) || busesMeet s i j) (numbersMeet s i j) abc in
