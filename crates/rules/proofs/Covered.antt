@@ -1,6 +1,6 @@
 -- Covering goes up the tree, and what that means for a TLP that is sent up. Assumes nothing.
 use mathlib.Core.Path.{_≡_, refl, sym, subst}
-use mathlib.Core.Bool.{Bool, true, false}
+use mathlib.Core.Bool.{Bool, true, false, not}
 use Prim.Native.Nat.{ℕ, _≤_, _<_}
 use native.Mathlib.Omega.{arith}
 use lib.Dec.{eqb, leb}
@@ -22,11 +22,19 @@ use Rattle.rules.specs.Fabric.{Shape, Setting}
 use Rattle.rules.specs.Cover.{coversTarget, covers, isEntry, entryFor}
 use Rattle.rules.specs.Decide.{complex}
 use Rattle.rules.specs.Route.{Trip, landsAt, landed, nextDown, hopDown, down, fromTop, above, hopUp, up}
-use Rattle.rules.specs.Demand.{Nested, WellFormed, wasSentUp, Answerable, unvalidated}
+use Rattle.rules.specs.Demand.{Nested, WellFormed, wasSentUp, Answerable}
 use Rattle.rules.proofs.Logic.{clash, among-case, both, and-both, either}
 use Rattle.rules.proofs.Loops.{find-none}
 use Rattle.rules.proofs.Sound.{downstream-port, port-no-endpoint}
 use Rattle.rules.proofs.Steps.{Sinks, next-sinks, down-induction, Claims, peer-claims, decide-case, Ascends, ascends, up-induction, entry-in}
+
+-- a delivery that is not checked is unvalidated
+abbrev pub unvalidated : Outcome → Bool
+unvalidated (Delivered i checked) = not checked
+unvalidated Host = false
+unvalidated (Unclaimed i) = false
+unvalidated (Undefined i) = false
+unvalidated (Violated letter p abort) = false
 
 pub upstream-no-root : (k : ℕ) → isUpstream k ≡ true → isRoot k ≡ false
 upstream-no-root k h = let e : k ≡ 2 = eqb-true _ _ h in rw e

@@ -7,6 +7,8 @@ use lib.Dec.{eqb}
 use borrow.Author.Tests.{eqb-true}
 use Rattle.rules.specs.declared.Handling.{Handling}
 use Rattle.rules.specs.declared.Handling.the-variants.{Direct, Redirect}
+use Rattle.rules.specs.declared.Outcome.{Outcome}
+use Rattle.rules.specs.declared.Outcome.the-variants.{Delivered, Host, Unclaimed, Undefined, Violated}
 use Rattle.rules.specs.declared.Landing.{Landing}
 use Rattle.rules.specs.declared.Landing.the-variants.{Arrives, Nobody}
 use Rattle.rules.specs.declared.Tlp.{Tlp}
@@ -15,10 +17,17 @@ use Rattle.rules.specs.Fabric.{Shape, shapeOf, settingOf}
 use Rattle.rules.specs.Cover.{entryFor}
 use Rattle.rules.specs.Decide.{handling, vectorNumber, badTranslation, peerHandling}
 use Rattle.rules.specs.Route.{Trip, landed, down, fromTop, hopUp, up}
-use Rattle.rules.specs.Demand.{WellFormed, EveryU, LockedAt, Locked, unvalidated, isUndefined}
+use Rattle.rules.specs.Demand.{WellFormed, EveryU, LockedAt, Locked}
 use Rattle.rules.proofs.Logic.{clash, among-case, and-both, and-right-false, implies, redirect-no-direct}
 use Rattle.rules.proofs.Steps.{decide-case, up-induction}
-use Rattle.rules.proofs.Covered.{checked-validated}
+use Rattle.rules.proofs.Covered.{unvalidated, checked-validated}
+
+abbrev pub isUndefined : Outcome → Bool
+isUndefined (Delivered i checked) = false
+isUndefined Host = false
+isUndefined (Unclaimed i) = false
+isUndefined (Undefined i) = true
+isUndefined (Violated letter p abort) = false
 
 -- a way down is never undefined
 landed-defined : (c : Bool) (x : Landing) → isUndefined (landed c x) ≡ false

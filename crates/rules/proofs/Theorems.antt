@@ -18,20 +18,20 @@ use Rattle.rules.specs.Cover.{covers}
 use Rattle.rules.specs.Decide.{complex}
 use Rattle.rules.specs.Route.{Trip, above, up, route}
 use Rattle.rules.specs.Refuse.{refused, answered, through, fits, checked, routed, result}
-use Rattle.rules.specs.Demand.{AreBytes, OneWay, IsPort, IsEndpoint, EveryU, Locked, unvalidated, isUndefined, wasSentUp, Answerable}
+use Rattle.rules.specs.Demand.{AreBytes, OneWay, IsPort, IsEndpoint, EveryU, Locked, wasSentUp, Answerable}
 use Rattle.rules.specs.Tight.{Alike, AtLeastAsTight}
 use Rattle.rules.specs.Bound.{ports, depth, hopBound, mostHops, roomForAll}
 use Rattle.rules.proofs.Logic.{clash}
 use Rattle.rules.proofs.Sound.{all-fine, no-fault-nested}
 use Rattle.rules.proofs.Entered.{host-route, endpoint-answer, any-answer, Fit, readable-fit, Entered, endpoint-entered, endpoint-route, origin-case}
 use Rattle.rules.proofs.Accepted.{Readable, Accepted, accepted-read, result-past, result-accepted, accepted-result}
-use Rattle.rules.proofs.Covered.{claimed-above, top-not-sent, sent-answerable}
+use Rattle.rules.proofs.Covered.{unvalidated, claimed-above, top-not-sent, sent-answerable}
 use Rattle.rules.proofs.Steps.{Ascends, ascends}
 use Rattle.rules.proofs.Hops.{ports-depth, depth-most, top-hops, up-hops}
 use Rattle.rules.proofs.Unique.{one-way}
 use Rattle.rules.proofs.Alike.{same-count, same-kind, same-shape, same-origin}
 use Rattle.rules.proofs.Tighter.{tight-up}
-use Rattle.rules.proofs.Strict.{top-defined, up-defined, up-locked}
+use Rattle.rules.proofs.Strict.{isUndefined, top-defined, up-defined, up-locked}
 
 -- 1. Tighter never opens. Two accepted snapshots alike in every byte but the Control registers and the vectors, the second at least as
 -- tight as the first: a memory request from an endpoint that the second delivers unvalidated has the very same answer under the first.

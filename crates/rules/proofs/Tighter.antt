@@ -16,11 +16,11 @@ use Rattle.rules.specs.Fabric.{shapeOf, settingOf}
 use Rattle.rules.specs.Cover.{covers, peerOf}
 use Rattle.rules.specs.Decide.{asAddressed, badSource, badTranslation, handling, peerHandling, direct, handled, toPeer, onward, pastParent, decide}
 use Rattle.rules.specs.Route.{above, before, hop, hopUp, up}
-use Rattle.rules.specs.Demand.{WellFormed, Nested, AreBytes, IsPort, unvalidated}
+use Rattle.rules.specs.Demand.{WellFormed, Nested, AreBytes, IsPort}
 use Rattle.rules.specs.Tight.{Alike, TightAt, AtLeastAsTight}
 use Rattle.rules.proofs.Logic.{clash, redirect-no-direct, violation-no-direct, both, and-both, implies}
 use Rattle.rules.proofs.Steps.{Claims, Passed, decide-case, Ascends, ascends, up-step, up-induction}
-use Rattle.rules.proofs.Covered.{checked-validated, claimed-above, covered-answerable, answerable-validated}
+use Rattle.rules.proofs.Covered.{unvalidated, checked-validated, claimed-above, covered-answerable, answerable-validated}
 use Rattle.rules.proofs.Alike.{same-capability}
 
 -- R on gives direct only with E on and the bit clear

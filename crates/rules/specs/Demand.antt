@@ -82,21 +82,6 @@ pub record LockedAt (s : List ℕ) (p : ℕ) : Type 0 where
 abbrev pub Locked : List ℕ → Type 0
 Locked s = (p : ℕ) → IsPort s p → LockedAt s p
 
--- a delivery that is not checked is unvalidated
-abbrev pub unvalidated : Outcome → Bool
-unvalidated (Delivered i checked) = not checked
-unvalidated Host = false
-unvalidated (Unclaimed i) = false
-unvalidated (Undefined i) = false
-unvalidated (Violated letter p abort) = false
-
-abbrev pub isUndefined : Outcome → Bool
-isUndefined (Delivered i checked) = false
-isUndefined Host = false
-isUndefined (Unclaimed i) = false
-isUndefined (Undefined i) = true
-isUndefined (Violated letter p abort) = false
-
 -- some hop was redirected up, up by U, or reflected
 abbrev pub wasSentUp : List Hop → Bool
 wasSentUp [] = false
