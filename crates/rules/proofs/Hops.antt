@@ -1,8 +1,8 @@
 -- How many hops a route makes: D bounds the ports on the way up, and on the way down. Assumes nothing.
 use mathlib.Core.Path.{_≡_, _∙_, ap}
 use mathlib.Core.Bool.{Bool, true, false, cond}
-use Prim.Native.Nat.{ℕ, zero, suc, _+_, _*_, _≤_, _<_, max}
-use native.Mathlib.Nat.{not-suc-le-zero}
+use Prim.Native.Nat.{suc-le-suc, ℕ, zero, suc, _+_, _*_, _≤_, _<_, max}
+use native.Mathlib.Nat.{not-suc-le-zero, le-trans}
 use native.Mathlib.Omega.{arith}
 use lib.Dec.{eqb}
 use lib.ListN.{length}
@@ -192,7 +192,7 @@ module _ (sh : Shape) (wf : WellFormed sh) where
           undefined = λ _ _ _. omega arith;
           sent-up = λ _ _ _ _ _ r. rise r;
           blocked = λ _ _ _ _ _. omega arith;
-          reflects = λ _ _ _ _ _. let h : length (fromTop sh t true .hops) ≤ depth sh + 1 = top-hops true in omega arith;
+          reflects = λ _ _ _ _ _. le-trans (suc-le-suc (top-hops _)) (omega arith);
           by-e = λ _ _ _ _ _. omega arith;
           apart = λ _ _ _ _ _ _. omega arith;
           across = λ _ _ q e _ _.

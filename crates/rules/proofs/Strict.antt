@@ -57,7 +57,7 @@ module _ (s : List ℕ) (t : Tlp) (wf : WellFormed (shapeOf s)) where
         undefined = λ _ _ off. clash (every p (l, k)) off;
         sent-up = λ _ _ _ _ _ r. rec r;
         blocked = λ _ _ _ _ _. refl;
-        reflects = λ _ _ _ _ _. top-defined (shapeOf s) t true;
+        reflects = λ _ _ _ _ _. top-defined (shapeOf s) t _;
         by-e = λ _ _ _ _ _. refl;
         apart = λ _ _ _ _ _ _. refl;
         across = λ _ _ q _ _ _. landed-defined false (down (shapeOf s) t q .landing);
