@@ -49,12 +49,28 @@ module _ (sh : Shape) (wf : WellFormed sh) where
       (λ d. let e : sh .kind (sh .parent i) ≡ 2 = eqb-true _ _ (wf .under-upstream i l d) in rw e)
       (λ n. port-no-endpoint (sh .kind (sh .parent i)) (wf .under-port i l (rw (r, n))))
 
-  -- a sibling of a root port is one, and of no other
-  pub sibling-root : sh .count ≤ 256 → (p q : ℕ) → p < sh .count → q < sh .count → sh .parent q ≡ sh .parent p → isRoot (sh .kind p) ≡ true
-      → isRoot (sh .kind q) ≡ true
-  sibling-root few p q l m e r =
-      either (isRoot (sh .kind q)) (λ x. x)
-      (λ n. let a : sh .parent q < q = wf .lower q m n in let b : sh .parent p ≡ 0xFFFF = wf .parentless p l r in absurd (omega arith))
+  module _ (few : sh .count ≤ 256) where
+    -- a record whose parent is a record is no root port
+    pub standing : (i : ℕ) → i < sh .count → sh .parent i < sh .count → isRoot (sh .kind i) ≡ false
+    standing i l m =
+        either (isRoot (sh .kind i)) (λ r. let e : sh .parent i ≡ 0xFFFF = wf .parentless i l r in absurd (omega arith)) (λ r. r)
+
+    -- a sibling of a root port is one
+    pub sibling-root : (p q : ℕ) → p < sh .count → q < sh .count → sh .parent q ≡ sh .parent p → isRoot (sh .kind p) ≡ true
+        → isRoot (sh .kind q) ≡ true
+    sibling-root p q l m e r =
+        either (isRoot (sh .kind q)) (λ x. x)
+        (λ n. clash r (standing p l (subst (λ (k : ℕ). k < sh .count) e (parent-present q m n))))
+
+    -- what stands under a port is no port
+    pub under-no-port : (p i : ℕ) → p < sh .count → isPort (sh .kind p) ≡ true → i < sh .count → sh .parent i ≡ p
+        → isPort (sh .kind i) ≡ false
+    under-no-port p i l k m e = rw (standing i m (rw e l), no-downstream)
+      where
+        no-downstream : isDownstream (sh .kind i) ≡ false
+        no-downstream =
+            either (isDownstream (sh .kind i))
+            (λ d. let two : sh .kind p ≡ 2 = eqb-true _ _ (rw e at (wf .under-upstream i m d)) in clash k (rw two)) (λ d. d)
 
 module _ (sh : Shape) (wf : WellFormed sh) (nest : Nested sh) where
   -- a bus of record i is one of its parent's

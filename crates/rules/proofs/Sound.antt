@@ -88,18 +88,22 @@ module _ (s : List ℕ) (i : ℕ) (ok : fine s i ≡ true) where
   own-bus-above : isRoot (kind s i) ≡ false → ownBus s i ≡ secondary s (parent s i)
   own-bus-above r = eqb-true _ _ (rw r at (both (ownBusFine s i) (busOrderFine s i) buses-rule .0))
 
+  -- the three tests of a bridge's buses
   bus-order : isEndpoint (kind s i) ≡ false
-      → ((ltb (ownBus s i) (secondary s i) && leb (secondary s i) (subordinate s i)) && leb (subordinate s i) (ofParent s i 255 subordinate)) ≡ true
+      → (ltb (ownBus s i) (secondary s i) ≡ true) × (leb (secondary s i) (subordinate s i) ≡ true)
+      × (leb (subordinate s i) (ofParent s i 255 subordinate) ≡ true)
   bus-order n =
-      rw (bridge (kind s i) (kind-range .0) (kind-range .1) n) at (both (ownBusFine s i) (busOrderFine s i) buses-rule .1)
+      let three : (ltb (ownBus s i) (secondary s i) && leb (secondary s i) (subordinate s i) && leb (subordinate s i) (ofParent s i 255 subordinate)) ≡ true =
+      rw (bridge (kind s i) (kind-range .0) (kind-range .1) n) at (both (ownBusFine s i) (busOrderFine s i) buses-rule .1) in
+      let (two, c) = both (ltb (ownBus s i) (secondary s i) && leb (secondary s i) (subordinate s i)) (leb (subordinate s i) (ofParent s i 255 subordinate)) three in
+      let (a, b) = both (ltb (ownBus s i) (secondary s i)) (leb (secondary s i) (subordinate s i)) two in
+      (a, b, c)
 
   buses-in-order : isEndpoint (kind s i) ≡ false → (ownBus s i < secondary s i) × (secondary s i ≤ subordinate s i)
-  buses-in-order n =
-      let w = both (ltb (ownBus s i) (secondary s i)) (leb (secondary s i) (subordinate s i)) (both _ (leb (subordinate s i) (ofParent s i 255 subordinate)) (bus-order n) .0) in
-      (ltb-true _ _ (w .0), leb-true _ _ (w .1))
+  buses-in-order n = (ltb-true _ _ (bus-order n .0), leb-true _ _ (bus-order n .1))
 
   buses-inside : isRoot (kind s i) ≡ false → isEndpoint (kind s i) ≡ false → subordinate s i ≤ subordinate s (parent s i)
-  buses-inside r n = leb-true _ _ (rw r at (both (ltb (ownBus s i) (secondary s i) && leb (secondary s i) (subordinate s i)) (leb (subordinate s i) (ofParent s i 255 subordinate)) (bus-order n) .1))
+  buses-inside r n = leb-true _ _ (rw r at (bus-order n .2))
 
   -- an open range of i lies inside an open window of its parent
   nested : isRoot (kind s i) ≡ false → (k : ℕ) → k < 6 → isOpen s i k ≡ true → Some 2 (inside s i k (parent s i))
@@ -110,26 +114,30 @@ module _ (s : List ℕ) (i : ℕ) (ok : fine s i ≡ true) where
       (λ c. clash o (not-true c))
       (λ a. any-some 2 (inside s i k (parent s i)) a)
 
--- an address in a range is in the window that the range lies inside
+-- an address in open range k
+pub in-parts : (s : List ℕ) (i a k : ℕ) → inRange s i a k ≡ true
+    → (isOpen s i k ≡ true) × (leb (first s i k) a ≡ true) × (leb a (last s i k) ≡ true)
+unfolding inRange
+in-parts s i a k r =
+    let (o, x) = both (isOpen s i k) (leb (first s i k) a && leb a (last s i k)) r in
+    let (f, l) = both (leb (first s i k) a) (leb a (last s i k)) x in
+    (o, f, l)
+
+-- is in the window that the range lies inside
 inside-in : (s : List ℕ) (i k p m a : ℕ) → inside s i k p m ≡ true → inRange s i a k ≡ true → inRange s p a m ≡ true
 unfolding inside inRange
 inside-in s i k p m a h r =
     let (o, h2) = both (isOpen s p m) (leb (first s p m) (first s i k) && leb (last s i k) (last s p m)) h in
     let (h3, h4) = both (leb (first s p m) (first s i k)) (leb (last s i k) (last s p m)) h2 in
-    let (_, r2) = both (isOpen s i k) (leb (first s i k) a && leb a (last s i k)) r in
-    let (r3, r4) = both (leb (first s i k) a) (leb a (last s i k)) r2 in
-    and-both o (and-both (leb-trans (first s p m) (first s i k) a h3 r3) (leb-trans a (last s i k) (last s p m) r4 h4))
-
-pub in-open : (s : List ℕ) (i a k : ℕ) → inRange s i a k ≡ true → isOpen s i k ≡ true
-unfolding inRange
-in-open s i a k r = both (isOpen s i k) (leb (first s i k) a && leb a (last s i k)) r .0
+    let (_, f, l) = in-parts s i a k r in
+    and-both o (and-both (leb-trans (first s p m) (first s i k) a h3 f) (leb-trans a (last s i k) (last s p m) l h4))
 
 holds-nest : (s : List ℕ) (i : ℕ) → fine s i ≡ true → isRoot (kind s i) ≡ false
     → (a : ℕ) → holds s i a ≡ true → holds s (parent s i) a ≡ true
 unfolding holds
 holds-nest s i ok r a h =
     let x : Some 6 (inRange s i a) = any-some 6 (inRange s i a) h in
-    let y : Some 2 (inside s i (x .which) (parent s i)) = nested s i ok r (x .which) (x .below) (in-open s i a (x .which) (x .passes)) in
+    let y : Some 2 (inside s i (x .which) (parent s i)) = nested s i ok r (x .which) (x .below) (in-parts s i a (x .which) (x .passes) .0) in
     some-any 6 (inRange s (parent s i) a) (y .which) (omega arith)
     (inside-in s i (x .which) (parent s i) (y .which) a (y .passes) (x .passes))
 
