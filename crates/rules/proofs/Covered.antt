@@ -1,6 +1,6 @@
 -- Covering goes up the tree, and what that means for a TLP that is sent up. Assumes nothing.
 use mathlib.Core.Path.{_≡_, refl, sym, subst}
-use mathlib.Core.Bool.{Bool, true, false}
+use mathlib.Core.Bool.{Bool, true, false, not}
 use Prim.Native.Nat.{ℕ, _≤_, _<_}
 use native.Mathlib.Omega.{arith}
 use lib.Dec.{eqb, leb}
@@ -22,11 +22,19 @@ use Rattle.rules.specs.Fabric.{Shape, Setting}
 use Rattle.rules.specs.Cover.{coversTarget, covers, isEntry, entryFor}
 use Rattle.rules.specs.Decide.{complex}
 use Rattle.rules.specs.Route.{Trip, landsAt, landed, nextDown, hopDown, down, fromTop, above, hopUp, up}
-use Rattle.rules.specs.Demand.{WellFormed, wasSentUp, Answerable, unvalidated}
+use Rattle.rules.specs.Demand.{Nested, WellFormed, wasSentUp, Answerable}
 use Rattle.rules.proofs.Logic.{clash, among-case, both, and-both, either}
 use Rattle.rules.proofs.Loops.{find-none}
 use Rattle.rules.proofs.Sound.{downstream-port, port-no-endpoint}
 use Rattle.rules.proofs.Steps.{Sinks, next-sinks, down-induction, Claims, peer-claims, decide-case, Ascends, ascends, up-induction, entry-in}
+
+-- a delivery that is not checked is unvalidated
+abbrev pub unvalidated : Outcome → Bool
+unvalidated (Delivered i checked) = not checked
+unvalidated Host = false
+unvalidated (Unclaimed i) = false
+unvalidated (Undefined i) = false
+unvalidated (Violated letter p abort) = false
 
 pub upstream-no-root : (k : ℕ) → isUpstream k ≡ true → isRoot k ≡ false
 upstream-no-root k h = let e : k ≡ 2 = eqb-true _ _ h in rw e
@@ -41,6 +49,30 @@ module _ (sh : Shape) (wf : WellFormed sh) where
       (λ d. let e : sh .kind (sh .parent i) ≡ 2 = eqb-true _ _ (wf .under-upstream i l d) in rw e)
       (λ n. port-no-endpoint (sh .kind (sh .parent i)) (wf .under-port i l (rw (r, n))))
 
+  module _ (few : sh .count ≤ 256) where
+    -- a record whose parent is a record is no root port
+    pub standing : (i : ℕ) → i < sh .count → sh .parent i < sh .count → isRoot (sh .kind i) ≡ false
+    standing i l m =
+        either (isRoot (sh .kind i)) (λ r. let e : sh .parent i ≡ 0xFFFF = wf .parentless i l r in absurd (omega arith)) (λ r. r)
+
+    -- a sibling of a root port is one
+    pub sibling-root : (p q : ℕ) → p < sh .count → q < sh .count → sh .parent q ≡ sh .parent p → isRoot (sh .kind p) ≡ true
+        → isRoot (sh .kind q) ≡ true
+    sibling-root p q l m e r =
+        either (isRoot (sh .kind q)) (λ x. x)
+        (λ n. clash r (standing p l (subst (λ (k : ℕ). k < sh .count) e (parent-present q m n))))
+
+    -- what stands under a port is no port
+    pub under-no-port : (p i : ℕ) → p < sh .count → isPort (sh .kind p) ≡ true → i < sh .count → sh .parent i ≡ p
+        → isPort (sh .kind i) ≡ false
+    under-no-port p i l k m e = rw (standing i m (rw e l), no-downstream)
+      where
+        no-downstream : isDownstream (sh .kind i) ≡ false
+        no-downstream =
+            either (isDownstream (sh .kind i))
+            (λ d. let two : sh .kind p ≡ 2 = eqb-true _ _ (rw e at (wf .under-upstream i m d)) in clash k (rw two)) (λ d. d)
+
+module _ (sh : Shape) (wf : WellFormed sh) (nest : Nested sh) where
   -- a bus of record i is one of its parent's
   bus-above : (i : ℕ) → i < sh .count → isRoot (sh .kind i) ≡ false → isEndpoint (sh .kind i) ≡ false
       → (b : ℕ) → within (sh .secondary i) b (sh .subordinate i) ≡ true
@@ -49,26 +81,26 @@ module _ (sh : Shape) (wf : WellFormed sh) where
       let (a, c) = both (leb (sh .secondary i) b) (leb b (sh .subordinate i)) h in
       let x : sh .secondary i ≤ b = leb-true _ _ a in
       let y : b ≤ sh .subordinate i = leb-true _ _ c in
-      let o : sh .ownBus i ≡ sh .secondary (sh .parent i) = wf .own-bus i l r in
-      let k : sh .ownBus i < sh .secondary i = wf .buses i l n .0 in
-      let m : sh .subordinate i ≤ sh .subordinate (sh .parent i) = wf .buses-above i l r n in
+      let o : sh .ownBus i ≡ sh .secondary (sh .parent i) = nest .own-bus i l r in
+      let k : sh .ownBus i < sh .secondary i = nest .buses i l n .0 in
+      let m : sh .subordinate i ≤ sh .subordinate (sh .parent i) = nest .buses-above i l r n in
       and-both (le-leb (sh .secondary (sh .parent i)) b (omega arith)) (le-leb b (sh .subordinate (sh .parent i)) (omega arith))
 
   -- an endpoint's own bus is one of its port's
   own-bus-above : (i : ℕ) → i < sh .count → isRoot (sh .kind i) ≡ false → (b : ℕ) → sh .ownBus i ≡ b
       → within (sh .secondary (sh .parent i)) b (sh .subordinate (sh .parent i)) ≡ true
   own-bus-above i l r b e =
-      let o : sh .ownBus i ≡ sh .secondary (sh .parent i) = wf .own-bus i l r in
+      let o : sh .ownBus i ≡ sh .secondary (sh .parent i) = nest .own-bus i l r in
       let k : sh .secondary (sh .parent i) ≤ sh .subordinate (sh .parent i) =
-      wf .buses (sh .parent i) (parent-present i l r) (parent-no-endpoint i l r) .1 in
+      nest .buses (sh .parent i) (parent-present sh wf i l r) (parent-no-endpoint sh wf i l r) .1 in
       and-both (le-leb (sh .secondary (sh .parent i)) b (omega arith)) (le-leb b (sh .subordinate (sh .parent i)) (omega arith))
 
   -- what record i covers its parent covers
   target-above : (i : ℕ) → i < sh .count → isRoot (sh .kind i) ≡ false → (g : Target)
       → coversTarget sh g i ≡ true → coversTarget sh g (sh .parent i) ≡ true
-  target-above i l r (Address a) h = wf .holds-above i l r a h
+  target-above i l r (Address a) h = nest .holds-above i l r a h
   target-above i l r (Id bus place) h =
-      rw (parent-no-endpoint i l r)
+      rw (parent-no-endpoint sh wf i l r)
       (either (isEndpoint (sh .kind i))
       (λ e. own-bus-above i l r (bus .0) (eqb-true _ _ (both (eqb (sh .ownBus i) (bus .0)) (eqb (sh .place i) place) (rw e at h) .0)))
       (λ n. bus-above i l r n (bus .0) (rw n at h)))
@@ -78,23 +110,15 @@ module _ (sh : Shape) (wf : WellFormed sh) where
   unfolding covers
   covers-above t i l r h = target-above i l r (t .target) h
 
-  module _ (few : sh .count ≤ 256) where
-    -- a sibling of a root port is one, and of no other
-    pub sibling-root : (p q : ℕ) → p < sh .count → q < sh .count → sh .parent q ≡ sh .parent p → isRoot (sh .kind p) ≡ true
-        → isRoot (sh .kind q) ≡ true
-    sibling-root p q l m e r =
-        either (isRoot (sh .kind q)) (λ x. x)
-        (λ n. let a : sh .parent q < q = wf .lower q m n in let b : sh .parent p ≡ 0xFFFF = wf .parentless p l r in absurd (omega arith))
-
-    -- what a port or its sibling covers the port above covers
-    pub claimed-above : (t : Tlp) (p q : ℕ) → p < sh .count → isPort (sh .kind p) ≡ true → isRoot (sh .kind p) ≡ false → Claims sh t p q
-        → covers sh t (above sh p) ≡ true
-    claimed-above t p q l k r c =
-        let nr : isRoot (sh .kind q) ≡ false = either (isRoot (sh .kind q)) (λ x. clash (sibling-root q p (c .present) l (sym (c .sibling)) x) r) (λ x. x) in
-        let two : isUpstream (sh .kind (sh .parent p)) ≡ true = wf .under-upstream p l (downstream-port (sh .kind p) k r) in
-        let at-two : covers sh t (sh .parent p) ≡ true =
-        subst (λ (m : ℕ). covers sh t m ≡ true) (c .sibling) (covers-above t q (c .present) nr (c .covering)) in
-        covers-above t (sh .parent p) (parent-present p l r) (upstream-no-root (sh .kind (sh .parent p)) two) at-two
+  -- what a port or its sibling covers the port above covers
+  pub claimed-above : sh .count ≤ 256 → (t : Tlp) (p q : ℕ) → p < sh .count → isPort (sh .kind p) ≡ true → isRoot (sh .kind p) ≡ false → Claims sh t p q
+      → covers sh t (above sh p) ≡ true
+  claimed-above few t p q l k r c =
+      let nr : isRoot (sh .kind q) ≡ false = either (isRoot (sh .kind q)) (λ x. clash (sibling-root sh wf few q p (c .present) l (sym (c .sibling)) x) r) (λ x. x) in
+      let two : isUpstream (sh .kind (sh .parent p)) ≡ true = wf .under-upstream p l (downstream-port (sh .kind p) k r) in
+      let at-two : covers sh t (sh .parent p) ≡ true =
+      subst (λ (m : ℕ). covers sh t m ≡ true) (c .sibling) (covers-above t q (c .present) nr (c .covering)) in
+      covers-above t (sh .parent p) (parent-present sh wf p l r) (upstream-no-root (sh .kind (sh .parent p)) two) at-two
 
 -- the way down
 
@@ -156,7 +180,7 @@ translation-no-egress e = let z : _≡_ {A = ℕ} 0 1 = cc in absurd (omega arit
 validation-no-egress : Validation ≡ Egress → ⊥
 validation-no-egress e = let z : _≡_ {A = ℕ} 0 1 = cc in absurd (omega arith)
 
-module _ (sh : Shape) (st : Setting) (t : Tlp) (wf : WellFormed sh) (few : sh .count ≤ 256) where
+module _ (sh : Shape) (st : Setting) (t : Tlp) (wf : WellFormed sh) (nest : Nested sh) (few : sh .count ≤ 256) where
   -- a root port that covers the TLP: there is a way down
   entry-some : (q : ℕ) → q < sh .count → isRoot (sh .kind q) ≡ true → covers sh t q ≡ true → entryFor sh t ≡ Nothing → ⊥
   unfolding entryFor isEntry
@@ -180,7 +204,7 @@ module _ (sh : Shape) (st : Setting) (t : Tlp) (wf : WellFormed sh) (few : sh .c
         by-v = λ _ _. source-no-egress;
         by-b = λ _ _ _. translation-no-egress;
         undefined = λ _ _ _ _. tt;
-        sent-up = λ _ a _ q c r _. rec r (claimed-above sh wf few t p q l k r c);
+        sent-up = λ _ a _ q c r _. rec r (claimed-above sh wf nest few t p q l k r c);
         blocked = λ _ _ _ _ _ _. validation-no-egress;
         reflects = λ _ q c r _ _. reflected-answerable p q l r c;
         by-e = λ _ n _ _ _ o. clash o n;
@@ -203,7 +227,7 @@ module _ (sh : Shape) (st : Setting) (t : Tlp) (wf : WellFormed sh) (few : sh .c
         by-b = λ _ _ _. translation-no-egress;
         undefined = λ _ _ _ _. tt;
         sent-up = λ _ a _ q c r _. let x : Ascends sh p = ascends sh wf p l k r in
-            covered-answerable (above sh p) (x .present) (x .port) (claimed-above sh wf few t p q l k r c);
+            covered-answerable (above sh p) (x .present) (x .port) (claimed-above sh wf nest few t p q l k r c);
         blocked = λ _ _ _ _ _ _. validation-no-egress;
         reflects = λ _ q c r _ _. reflected-answerable p q l r c;
         by-e = λ _ _ _ _ _ s. clash s refl;

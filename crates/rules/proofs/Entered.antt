@@ -9,6 +9,8 @@ use lib.ListN.{length}
 use borrow.Author.Tests.{ltb-true, leb-true, eqb-true, ne-eqb}
 use Rattle.rules.specs.Snapshot.{flags, count, taken, goodUntil, kind, isEndpoint, isPort}
 use Rattle.rules.specs.Fabric.{Shape, shapeOf, settingOf}
+use Rattle.rules.specs.declared.Found.the-variants.{Nothing}
+use Rattle.rules.specs.Records.{lowestFaulty}
 use Rattle.rules.specs.Tlp.{tlpOf}
 use Rattle.rules.specs.Decide.{complex}
 use Rattle.rules.specs.Route.{Trip, up, fromTop, start, route}
@@ -28,12 +30,13 @@ few-records s h =
     leb-true _ _ (both (ltb (flags s) 4) (leb (count s) 256) b .1)
 
 pub record Fit (s : List ℕ) : Type 0 where
+  pub faultless : lowestFaulty s ≡ Nothing
   pub formed : WellFormed (shapeOf s)
   pub few : shapeOf s .count ≤ 256
 
 pub readable-fit : (s : List ℕ) (now : ℕ) → Readable s now → Fit s
 unfolding shapeOf
-readable-fit s now r = record { formed = no-fault-well-formed s (r .faultless); few = few-records s (r .made) }
+readable-fit s now r = record { faultless = r .faultless; formed = no-fault-well-formed s (r .faultless); few = few-records s (r .made) }
 
 -- the port above an endpoint
 pub record Entered (sh : Shape) (p : ℕ) : Type 0 where

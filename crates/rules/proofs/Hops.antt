@@ -1,8 +1,8 @@
 -- How many hops a route makes: D bounds the ports on the way up, and on the way down. Assumes nothing.
 use mathlib.Core.Path.{_≡_, _∙_, ap}
 use mathlib.Core.Bool.{Bool, true, false, cond}
-use Prim.Native.Nat.{ℕ, zero, suc, _+_, _*_, _≤_, _<_, max}
-use native.Mathlib.Nat.{not-suc-le-zero}
+use Prim.Native.Nat.{suc-le-suc, ℕ, zero, suc, _+_, _*_, _≤_, _<_, max}
+use native.Mathlib.Nat.{not-suc-le-zero, le-trans}
 use native.Mathlib.Omega.{arith}
 use lib.Dec.{eqb}
 use lib.ListN.{length}
@@ -12,14 +12,14 @@ use Rattle.rules.specs.declared.Down.the-variants.{Into, Below, Alone}
 use Rattle.rules.specs.declared.Tlp.{Tlp}
 use Rattle.rules.specs.Snapshot.{isRoot, isUpstream, isDownstream, isPort}
 use Rattle.rules.specs.Fabric.{Shape, Setting}
-use Rattle.rules.specs.Cover.{covers, isEntry, entryFor}
+use Rattle.rules.specs.Cover.{isEntry, entryFor}
 use Rattle.rules.specs.Route.{Trip, nextDown, hopDown, down, fromTop, above, hopUp, up}
 use Rattle.rules.specs.Demand.{WellFormed}
 use Rattle.rules.specs.Bound.{portsFrom, ports, most, depth}
-use Rattle.rules.proofs.Logic.{clash, among-case, both, either, or-left}
+use Rattle.rules.proofs.Logic.{or-false, clash, among-case, either, or-left}
 use Rattle.rules.proofs.Sound.{downstream-port}
-use Rattle.rules.proofs.Steps.{found-in, Sinks, next-sinks, Passes, Leads, next-leads, down-induction, Claims, peer-claims, decide-case, up-induction}
-use Rattle.rules.proofs.Covered.{parent-present}
+use Rattle.rules.proofs.Steps.{entry-parts, found-in, Sinks, next-sinks, Passes, Leads, next-leads, down-induction, Claims, peer-claims, decide-case, up-induction}
+use Rattle.rules.proofs.Covered.{parent-present, standing, under-no-port}
 
 most-above : (n : ℕ) (f : ℕ → ℕ) (j : ℕ) → j < n → f j ≤ most n f
 unfolding most
@@ -121,33 +121,18 @@ module _ (sh : Shape) (wf : WellFormed sh) where
       (λ k. let h2 : 2 * ports sh j ≤ j + 1 + 0 = rw k at h in omega arith))
 
   module _ (t : Tlp) (few : sh .count ≤ 256) where
-    -- what a port passes a TLP down through is no port
-    via-no-port : (p q : ℕ) → p < sh .count → isPort (sh .kind p) ≡ true → (x : Passes sh t p q)
-        → (isPort (sh .kind (x .via)) ≡ false) × (isRoot (sh .kind (x .via)) ≡ false)
-    via-no-port p q l k x =
-        let nr : isRoot (sh .kind (x .via)) ≡ false = either (isRoot (sh .kind (x .via)))
-        (λ r. let e : sh .parent (x .via) ≡ 0xFFFF = wf .parentless (x .via) (x .via-present) r in let b : sh .parent (x .via) ≡ p = x .via-below in absurd (omega arith))
-        (λ r. r) in
-        let nd : isDownstream (sh .kind (x .via)) ≡ false = either (isDownstream (sh .kind (x .via)))
-        (λ d. let e : sh .kind (sh .parent (x .via)) ≡ 2 = eqb-true _ _ (wf .under-upstream (x .via) (x .via-present) d) in
-        let two : sh .kind p ≡ 2 = rw (x .via-below) at e in clash k (rw two))
-        (λ d. d) in
-        (rw (nr, nd), nr)
-
-    -- the port that it is passed to has one port more on its way
+    -- a port that a TLP is passed down to has one port more on its way: the kind 2 node between them is none
     passed-port : (p q : ℕ) → p < sh .count → isPort (sh .kind p) ≡ true → Passes sh t p q
         → (isPort (sh .kind q) ≡ true) × (ports sh q ≡ 1 + ports sh p)
     passed-port p q l k x =
-        let (np, nr) = via-no-port p q l k x in
-        let qr : isRoot (sh .kind q) ≡ false = either (isRoot (sh .kind q))
-        (λ r. let e : sh .parent q ≡ 0xFFFF = wf .parentless q (x .present) r in let b : sh .parent q ≡ x .via = x .below in
-        let c : x .via < sh .count = x .via-present in absurd (omega arith))
-        (λ r. r) in
-        let qp : isPort (sh .kind q) ≡ true = either (isPort (sh .kind q)) (λ y. y)
-        (λ n. clash (rw (x .below) at (wf .under-port q (x .present) n)) np) in
-        let a : ports sh q ≡ 1 + ports sh (x .via) = rw (x .below) at (ports-port q (x .present) qp qr) in
-        let b : ports sh (x .via) ≡ ports sh p = rw (x .via-below) at (ports-other (x .via) (x .via-present) np nr) in
-        (qp, omega arith)
+        let no-port : isPort (sh .kind (x .via)) ≡ false = under-no-port sh wf few p (x .via) l k (x .via-present) (x .via-below) in
+        let no-root : isRoot (sh .kind (x .via)) ≡ false = or-false (isRoot (sh .kind (x .via))) (isDownstream (sh .kind (x .via))) no-port .0 in
+        let q-no-root : isRoot (sh .kind q) ≡ false = standing sh wf few q (x .present) (rw (x .below) (x .via-present)) in
+        let q-port : isPort (sh .kind q) ≡ true = either (isPort (sh .kind q)) (λ y. y)
+        (λ n. clash (rw (x .below) at (wf .under-port q (x .present) n)) no-port) in
+        let a : ports sh q ≡ 1 + ports sh (x .via) = rw (x .below) at (ports-port q (x .present) q-port q-no-root) in
+        let b : ports sh (x .via) ≡ ports sh p = rw (x .via-below) at (ports-other (x .via) (x .via-present) no-port no-root) in
+        (q-port, omega arith)
 
     down-hops : (p : ℕ) → p < sh .count → isPort (sh .kind p) ≡ true → length (down sh t p .hops) + ports sh p ≤ depth sh + 2
     down-hops =
@@ -166,12 +151,12 @@ module _ (sh : Shape) (wf : WellFormed sh) where
         go p l k rec Alone b x = let d : ports sh p ≤ depth sh = ports-depth p l in omega arith
 
     pub top-hops : (c : Bool) → length (fromTop sh t c .hops) ≤ depth sh + 1
-    unfolding fromTop entryFor isEntry
+    unfolding fromTop entryFor
     top-hops c =
         among-case (λ (r : Trip). length (r .hops) ≤ depth sh + 1) (entryFor sh t)
         (λ q e.
         let (l, x) = found-in sh (isEntry sh t) q e in
-        let (r, _) = both (isRoot (sh .kind q)) (covers sh t q) x in
+        let (r, _) = entry-parts sh t q x in
         let h : length (down sh t q .hops) + ports sh q ≤ depth sh + 2 = down-hops q l (or-left (isRoot (sh .kind q)) (isDownstream (sh .kind q)) r) in
         let one : ports sh q ≡ 1 = ports-root q l r in
         omega arith)
@@ -192,7 +177,7 @@ module _ (sh : Shape) (wf : WellFormed sh) where
           undefined = λ _ _ _. omega arith;
           sent-up = λ _ _ _ _ _ r. rise r;
           blocked = λ _ _ _ _ _. omega arith;
-          reflects = λ _ _ _ _ _. let h : length (fromTop sh t true .hops) ≤ depth sh + 1 = top-hops true in omega arith;
+          reflects = λ _ _ _ _ _. le-trans (suc-le-suc (top-hops _)) (omega arith);
           by-e = λ _ _ _ _ _. omega arith;
           apart = λ _ _ _ _ _ _. omega arith;
           across = λ _ _ q e _ _.

@@ -11,9 +11,9 @@ use Rattle.rules.specs.declared.Found.the-variants.{Nothing}
 use Rattle.rules.specs.Below.{allOf, anyBelow}
 use Rattle.rules.specs.Bytes.{within}
 use Rattle.rules.specs.Snapshot.{count, kind, parent, ownBus, secondary, subordinate, first, last, isOpen, isRoot, isUpstream, isDownstream, isEndpoint, isPort, isBridge}
-use Rattle.rules.specs.Records.{kindFine, standsUnder, parentFine, ofParent, ownBusFine, busOrderFine, busesFine, inside, nestedFine, rules, fine, faulty, lowestFaulty}
+use Rattle.rules.specs.Records.{kindFine, standsUnder, parentFine, ofParent, ownBusFine, busOrderFine, busesFine, inside, nestedFine, clashes, rules, fine, faulty, lowestFaulty}
 use Rattle.rules.specs.Fabric.{inRange, holds, shapeOf}
-use Rattle.rules.specs.Demand.{WellFormed}
+use Rattle.rules.specs.Demand.{WellFormed, Nested}
 use Rattle.rules.proofs.Logic.{clash, leb-trans, both, and-both, or-case, not-true, not-false, or-false}
 use Rattle.rules.proofs.Loops.{Some, any-some, some-any, all-at, find-none}
 
@@ -44,23 +44,39 @@ bridge k a b n =
 
 module _ (s : List ℕ) (i : ℕ) (ok : fine s i ≡ true) where
   -- rule k of document 01's order
-  pub rule : (k : ℕ) → getD (rules s i) k true ≡ true
+  rule : (k : ℕ) → getD (rules s i) k true ≡ true
   unfolding fine
   rule k = all-of-at (rules s i) ok k
+
+  kind-rule : kindFine s i ≡ true
+  kind-rule = rule 0
+
+  parent-rule : parentFine s i ≡ true
+  parent-rule = rule 1
+
+  buses-rule : (ownBusFine s i && busOrderFine s i) ≡ true
+  unfolding busesFine
+  buses-rule = rule 3
+
+  nested-rule : nestedFine s i ≡ true
+  nested-rule = rule 6
+
+  pub clashes-rule : clashes s i ≡ false
+  clashes-rule = not-true (rule 8)
 
   pub kind-range : (1 ≤ kind s i) × (kind s i ≤ 4)
   unfolding kindFine
   kind-range =
-      let w = both (leb 1 (kind s i)) (leb (kind s i) 4) (both (within 1 (kind s i) 4) _ (rule 0) .0) in
+      let w = both (leb 1 (kind s i)) (leb (kind s i) 4) (both (within 1 (kind s i) 4) _ kind-rule .0) in
       (leb-true _ _ (w .0), leb-true _ _ (w .1))
 
   stands : isRoot (kind s i) ≡ false → (ltb (parent s i) i ≡ true) × (standsUnder (kind s i) (kind s (parent s i)) ≡ true)
   unfolding parentFine
-  stands r = both (ltb (parent s i) i) (standsUnder (kind s i) (kind s (parent s i))) (rw r at (rule 1))
+  stands r = both (ltb (parent s i) i) (standsUnder (kind s i) (kind s (parent s i))) (rw r at parent-rule)
 
   no-parent : isRoot (kind s i) ≡ true → parent s i ≡ 0xFFFF
   unfolding parentFine
-  no-parent r = eqb-true _ _ (rw r at (rule 1))
+  no-parent r = eqb-true _ _ (rw r at parent-rule)
 
   upstream-above : isDownstream (kind s i) ≡ true → isUpstream (kind s (parent s i)) ≡ true
   upstream-above d = rw d at (stands (downstream-no-root (kind s i) d) .1)
@@ -70,52 +86,58 @@ module _ (s : List ℕ) (i : ℕ) (ok : fine s i ≡ true) where
       let e = or-false (isRoot (kind s i)) (isDownstream (kind s i)) n in rw (e .1) at (stands (e .0) .1)
 
   own-bus-above : isRoot (kind s i) ≡ false → ownBus s i ≡ secondary s (parent s i)
-  unfolding busesFine
-  own-bus-above r = eqb-true _ _ (rw r at (both (ownBusFine s i) (busOrderFine s i) (rule 3) .0))
+  own-bus-above r = eqb-true _ _ (rw r at (both (ownBusFine s i) (busOrderFine s i) buses-rule .0))
 
+  -- the three tests of a bridge's buses
   bus-order : isEndpoint (kind s i) ≡ false
-      → ((ltb (ownBus s i) (secondary s i) && leb (secondary s i) (subordinate s i)) && leb (subordinate s i) (ofParent s i 255 subordinate)) ≡ true
-  unfolding busesFine
+      → (ltb (ownBus s i) (secondary s i) ≡ true) × (leb (secondary s i) (subordinate s i) ≡ true)
+      × (leb (subordinate s i) (ofParent s i 255 subordinate) ≡ true)
   bus-order n =
-      rw (bridge (kind s i) (kind-range .0) (kind-range .1) n) at (both (ownBusFine s i) (busOrderFine s i) (rule 3) .1)
+      let three : (ltb (ownBus s i) (secondary s i) && leb (secondary s i) (subordinate s i) && leb (subordinate s i) (ofParent s i 255 subordinate)) ≡ true =
+      rw (bridge (kind s i) (kind-range .0) (kind-range .1) n) at (both (ownBusFine s i) (busOrderFine s i) buses-rule .1) in
+      let (two, c) = both (ltb (ownBus s i) (secondary s i) && leb (secondary s i) (subordinate s i)) (leb (subordinate s i) (ofParent s i 255 subordinate)) three in
+      let (a, b) = both (ltb (ownBus s i) (secondary s i)) (leb (secondary s i) (subordinate s i)) two in
+      (a, b, c)
 
   buses-in-order : isEndpoint (kind s i) ≡ false → (ownBus s i < secondary s i) × (secondary s i ≤ subordinate s i)
-  buses-in-order n =
-      let w = both (ltb (ownBus s i) (secondary s i)) (leb (secondary s i) (subordinate s i)) (both _ (leb (subordinate s i) (ofParent s i 255 subordinate)) (bus-order n) .0) in
-      (ltb-true _ _ (w .0), leb-true _ _ (w .1))
+  buses-in-order n = (ltb-true _ _ (bus-order n .0), leb-true _ _ (bus-order n .1))
 
   buses-inside : isRoot (kind s i) ≡ false → isEndpoint (kind s i) ≡ false → subordinate s i ≤ subordinate s (parent s i)
-  buses-inside r n = leb-true _ _ (rw r at (both (ltb (ownBus s i) (secondary s i) && leb (secondary s i) (subordinate s i)) (leb (subordinate s i) (ofParent s i 255 subordinate)) (bus-order n) .1))
+  buses-inside r n = leb-true _ _ (rw r at (bus-order n .2))
 
   -- an open range of i lies inside an open window of its parent
   nested : isRoot (kind s i) ≡ false → (k : ℕ) → k < 6 → isOpen s i k ≡ true → Some 2 (inside s i k (parent s i))
   unfolding nestedFine
   nested r k l o =
       or-case (not (isOpen s i k)) (anyBelow 2 (inside s i k (parent s i)))
-      (all-at 6 (λ k. not (isOpen s i k) || anyBelow 2 (inside s i k (parent s i))) (rw r at (rule 6)) k l)
+      (all-at 6 (λ k. not (isOpen s i k) || anyBelow 2 (inside s i k (parent s i))) (rw r at nested-rule) k l)
       (λ c. clash o (not-true c))
       (λ a. any-some 2 (inside s i k (parent s i)) a)
 
--- an address in a range is in the window that the range lies inside
+-- an address in open range k
+pub in-parts : (s : List ℕ) (i a k : ℕ) → inRange s i a k ≡ true
+    → (isOpen s i k ≡ true) × (leb (first s i k) a ≡ true) × (leb a (last s i k) ≡ true)
+unfolding inRange
+in-parts s i a k r =
+    let (o, x) = both (isOpen s i k) (leb (first s i k) a && leb a (last s i k)) r in
+    let (f, l) = both (leb (first s i k) a) (leb a (last s i k)) x in
+    (o, f, l)
+
+-- is in the window that the range lies inside
 inside-in : (s : List ℕ) (i k p m a : ℕ) → inside s i k p m ≡ true → inRange s i a k ≡ true → inRange s p a m ≡ true
 unfolding inside inRange
 inside-in s i k p m a h r =
     let (o, h2) = both (isOpen s p m) (leb (first s p m) (first s i k) && leb (last s i k) (last s p m)) h in
     let (h3, h4) = both (leb (first s p m) (first s i k)) (leb (last s i k) (last s p m)) h2 in
-    let (_, r2) = both (isOpen s i k) (leb (first s i k) a && leb a (last s i k)) r in
-    let (r3, r4) = both (leb (first s i k) a) (leb a (last s i k)) r2 in
-    and-both o (and-both (leb-trans (first s p m) (first s i k) a h3 r3) (leb-trans a (last s i k) (last s p m) r4 h4))
-
-pub in-open : (s : List ℕ) (i a k : ℕ) → inRange s i a k ≡ true → isOpen s i k ≡ true
-unfolding inRange
-in-open s i a k r = both (isOpen s i k) (leb (first s i k) a && leb a (last s i k)) r .0
+    let (_, f, l) = in-parts s i a k r in
+    and-both o (and-both (leb-trans (first s p m) (first s i k) a h3 f) (leb-trans a (last s i k) (last s p m) l h4))
 
 holds-nest : (s : List ℕ) (i : ℕ) → fine s i ≡ true → isRoot (kind s i) ≡ false
     → (a : ℕ) → holds s i a ≡ true → holds s (parent s i) a ≡ true
 unfolding holds
 holds-nest s i ok r a h =
     let x : Some 6 (inRange s i a) = any-some 6 (inRange s i a) h in
-    let y : Some 2 (inside s i (x .which) (parent s i)) = nested s i ok r (x .which) (x .below) (in-open s i a (x .which) (x .passes)) in
+    let y : Some 2 (inside s i (x .which) (parent s i)) = nested s i ok r (x .which) (x .below) (in-parts s i a (x .which) (x .passes) .0) in
     some-any 6 (inRange s (parent s i) a) (y .which) (omega arith)
     (inside-in s i (x .which) (parent s i) (y .which) a (y .passes) (x .passes))
 
@@ -127,6 +149,12 @@ well-formed s ok =
       parentless = λ i l r. no-parent s i (ok i l) r;
       under-upstream = λ i l d. upstream-above s i (ok i l) d;
       under-port = λ i l n. port-above s i (ok i l) n;
+    }
+
+pub nested-covers : (s : List ℕ) → ((i : ℕ) → i < count s → fine s i ≡ true) → Nested (shapeOf s)
+unfolding shapeOf
+nested-covers s ok =
+    record {
       holds-above = λ i l r. holds-nest s i (ok i l) r;
       own-bus = λ i l r. own-bus-above s i (ok i l) r;
       buses = λ i l n. buses-in-order s i (ok i l) n;
@@ -135,3 +163,6 @@ well-formed s ok =
 
 pub no-fault-well-formed : (s : List ℕ) → lowestFaulty s ≡ Nothing → WellFormed (shapeOf s)
 no-fault-well-formed s h = well-formed s (all-fine s h)
+
+pub no-fault-nested : (s : List ℕ) → lowestFaulty s ≡ Nothing → Nested (shapeOf s)
+no-fault-nested s h = nested-covers s (all-fine s h)

@@ -40,6 +40,25 @@ pub entry-in : (sh : Shape) (t : Tlp) (q : ℕ) → entryFor sh t ≡ At q → q
 unfolding entryFor
 entry-in sh t q h = found-in sh (isEntry sh t) q h .0
 
+-- the parts of the tests that the searches are made by
+
+pub peer-parts : (sh : Shape) (t : Tlp) (p q : ℕ) → isPeer sh t p q ≡ true
+    → (isPort (sh .kind q) ≡ true) × (sh .parent q ≡ sh .parent p) × (covers sh t q ≡ true)
+unfolding isPeer
+peer-parts sh t p q h =
+    let (x, c) = both (isPort (sh .kind q) && eqb (sh .parent q) (sh .parent p) && not (eqb q p)) (covers sh t q) h in
+    let (y, _) = both (isPort (sh .kind q) && eqb (sh .parent q) (sh .parent p)) (not (eqb q p)) x in
+    let (k, e) = both (isPort (sh .kind q)) (eqb (sh .parent q) (sh .parent p)) y in
+    (k, eqb-true _ _ e, c)
+
+pub entry-parts : (sh : Shape) (t : Tlp) (q : ℕ) → isEntry sh t q ≡ true → (isRoot (sh .kind q) ≡ true) × (covers sh t q ≡ true)
+unfolding isEntry
+entry-parts sh t q h = both (isRoot (sh .kind q)) (covers sh t q) h
+
+pub way-parts : (sh : Shape) (t : Tlp) (c q : ℕ) → isWayOn sh t c q ≡ true → (sh .parent q ≡ c) × (covers sh t q ≡ true)
+unfolding isWayOn
+way-parts sh t c q h = let (e, x) = both (eqb (sh .parent q) c) (covers sh t q) h in (eqb-true _ _ e, x)
+
 -- going down
 
 -- where a decision on the way down leads: above p, and to a record
@@ -80,15 +99,15 @@ module _ (sh : Shape) (t : Tlp) where
       (λ c e. let x = found-after sh p (isChild sh t p) c l e in child-sinks p c (x .0) (x .1)) (λ _. tt)
 
   way-on-from : (p c : ℕ) → p < c → c < sh .count → sh .parent c ≡ p → Leads sh t p (throughChild sh t c)
-  unfolding throughChild wayOn isWayOn
+  unfolding throughChild wayOn
   way-on-from p c a b e =
       cond-case (Leads sh t p) (not (covers sh t c)) (λ _. tt) λ _.
       cond-case (Leads sh t p) (isEndpoint (sh .kind c)) (λ _. tt) λ n.
       among-case (Leads sh t p) (wayOn sh t c)
       (λ q h.
       let (_, l, x) = found-after sh c (isWayOn sh t c) q b h in
-      let (y, z) = both (eqb (sh .parent q) c) (covers sh t q) x in
-      record { via = c; via-present = b; via-below = e; via-passes = n; present = l; below = eqb-true _ _ y; covering = z })
+      let (y, z) = way-parts sh t c q x in
+      record { via = c; via-present = b; via-below = e; via-passes = n; present = l; below = y; covering = z })
       (λ _. tt)
 
   pub next-leads : (p : ℕ) → p < sh .count → Leads sh t p (nextDown sh t p)
@@ -126,13 +145,11 @@ pub record Claims (sh : Shape) (t : Tlp) (p q : ℕ) : Type 0 where
   pub covering : covers sh t q ≡ true
 
 pub peer-claims : (sh : Shape) (t : Tlp) (p q : ℕ) → peerOf sh t p ≡ At q → Claims sh t p q
-unfolding peerOf isPeer
+unfolding peerOf
 peer-claims sh t p q h =
     let (l, x) = found-in sh (isPeer sh t p) q h in
-    let (y, c) = both (isPort (sh .kind q) && eqb (sh .parent q) (sh .parent p) && not (eqb q p)) (covers sh t q) x in
-    let (z, _) = both (isPort (sh .kind q) && eqb (sh .parent q) (sh .parent p)) (not (eqb q p)) y in
-    let (k, e) = both (isPort (sh .kind q)) (eqb (sh .parent q) (sh .parent p)) z in
-    record { present = l; port = k; sibling = eqb-true _ _ e; covering = c }
+    let (k, e, c) = peer-parts sh t p q x in
+    record { present = l; port = k; sibling = e; covering = c }
 
 -- steps 1 and 2 let the TLP pass
 pub record Passed (sh : Shape) (st : Setting) (t : Tlp) (p : ℕ) : Type 0 where

@@ -1,23 +1,33 @@
 -- Settings of every port under which nothing is undefined, and nothing is delivered unvalidated. Assumes nothing.
 use mathlib.Core.Path.{_≡_, refl, sym, _∙_}
-use mathlib.Core.Bool.{Bool, true, false}
+use mathlib.Core.Bool.{cond, _&&_, Bool, true, false}
 use mathlib.Core.List.{List}
 use Prim.Native.Nat.{ℕ, _<_}
 use lib.Dec.{eqb}
 use borrow.Author.Tests.{eqb-true}
-use Rattle.rules.specs.declared.Handling.the-variants.{Redirect}
+use Rattle.rules.specs.declared.Handling.{Handling}
+use Rattle.rules.specs.declared.Handling.the-variants.{Direct, Redirect}
+use Rattle.rules.specs.declared.Outcome.{Outcome}
+use Rattle.rules.specs.declared.Outcome.the-variants.{Delivered, Host, Unclaimed, Undefined, Violated}
 use Rattle.rules.specs.declared.Landing.{Landing}
 use Rattle.rules.specs.declared.Landing.the-variants.{Arrives, Nobody}
 use Rattle.rules.specs.declared.Tlp.{Tlp}
 use Rattle.rules.specs.Snapshot.{isPort}
 use Rattle.rules.specs.Fabric.{Shape, shapeOf, settingOf}
 use Rattle.rules.specs.Cover.{entryFor}
-use Rattle.rules.specs.Decide.{badTranslation, peerHandling}
+use Rattle.rules.specs.Decide.{handling, vectorNumber, badTranslation, peerHandling}
 use Rattle.rules.specs.Route.{Trip, landed, down, fromTop, hopUp, up}
-use Rattle.rules.specs.Demand.{WellFormed, EveryU, LockedAt, Locked, unvalidated, isUndefined}
+use Rattle.rules.specs.Demand.{WellFormed, EveryU, LockedAt, Locked}
 use Rattle.rules.proofs.Logic.{clash, among-case, and-both, and-right-false, implies, redirect-no-direct}
 use Rattle.rules.proofs.Steps.{decide-case, up-induction}
-use Rattle.rules.proofs.Covered.{checked-validated}
+use Rattle.rules.proofs.Covered.{unvalidated, checked-validated}
+
+abbrev pub isUndefined : Outcome → Bool
+isUndefined (Delivered i checked) = false
+isUndefined Host = false
+isUndefined (Unclaimed i) = false
+isUndefined (Undefined i) = true
+isUndefined (Violated letter p abort) = false
 
 -- a way down is never undefined
 landed-defined : (c : Bool) (x : Landing) → isUndefined (landed c x) ≡ false
@@ -28,6 +38,11 @@ pub top-defined : (sh : Shape) (t : Tlp) (c : Bool) → isUndefined (fromTop sh 
 unfolding fromTop
 top-defined sh t c =
     among-case (λ (r : Trip). isUndefined (r .end) ≡ false) (entryFor sh t) (λ q _. landed-defined c (down sh t q .landing)) (λ _. refl)
+
+-- R on and E off redirect an untranslated request
+locked-table : {request two : Bool} (t e r b : Bool) (completion : Handling) → request ≡ true → two ≡ false → e ≡ false → r ≡ true
+    → cond request (cond (t && two) Direct (handling e r b)) completion ≡ Redirect
+locked-table {two = two} t e r b completion q n off on = rw (q, and-right-false t two n, off, on)
 
 module _ (s : List ℕ) (t : Tlp) (wf : WellFormed (shapeOf s)) where
   pub up-defined : EveryU s → (p : ℕ) → p < shapeOf s .count → isPort (shapeOf s .kind p) ≡ true
@@ -42,7 +57,7 @@ module _ (s : List ℕ) (t : Tlp) (wf : WellFormed (shapeOf s)) where
         undefined = λ _ _ off. clash (every p (l, k)) off;
         sent-up = λ _ _ _ _ _ r. rec r;
         blocked = λ _ _ _ _ _. refl;
-        reflects = λ _ _ _ _ _. top-defined (shapeOf s) t true;
+        reflects = λ _ _ _ _ _. top-defined (shapeOf s) t _;
         by-e = λ _ _ _ _ _. refl;
         apart = λ _ _ _ _ _ _. refl;
         across = λ _ _ q _ _ _. landed-defined false (down (shapeOf s) t q .landing);
@@ -58,11 +73,12 @@ module _ (s : List ℕ) (t : Tlp) (wf : WellFormed (shapeOf s)) where
     untranslated p b ok =
         implies (λ two. let e : t .translation ≡ 2 = eqb-true _ _ two in and-both (and-both req b) (rw e)) ok
 
-    -- so that with R on and E off nothing goes direct
+    -- so that with R on and E off a peer gets nothing directly
     never-direct : (p q : ℕ) → LockedAt s p → badTranslation (settingOf s) t p ≡ false → peerHandling (shapeOf s) (settingOf s) t p q ≡ Redirect
     unfolding peerHandling settingOf
     never-direct p q lock ok =
-        rw (req, and-right-false (settingOf s .t p) (eqb (t .translation) 2) (untranslated p (lock .b) ok), lock .e, lock .r)
+        locked-table (settingOf s .t p) (settingOf s .e p) (settingOf s .r p) (settingOf s .vector p (vectorNumber (shapeOf s) q)) _ req
+        (untranslated p (lock .b) ok) (lock .e) (lock .r)
 
     pub up-locked : Locked s → (p : ℕ) → p < shapeOf s .count → isPort (shapeOf s .kind p) ≡ true
         → unvalidated (up (shapeOf s) (settingOf s) t p .end) ≡ false

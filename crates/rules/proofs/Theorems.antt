@@ -18,20 +18,20 @@ use Rattle.rules.specs.Cover.{covers}
 use Rattle.rules.specs.Decide.{complex}
 use Rattle.rules.specs.Route.{Trip, above, up, route}
 use Rattle.rules.specs.Refuse.{refused, answered, through, fits, checked, routed, result}
-use Rattle.rules.specs.Demand.{AreBytes, OneWay, IsPort, IsEndpoint, EveryU, Locked, unvalidated, isUndefined, wasSentUp, Answerable}
+use Rattle.rules.specs.Demand.{AreBytes, OneWay, IsPort, IsEndpoint, EveryU, Locked, wasSentUp, Answerable}
 use Rattle.rules.specs.Tight.{Alike, AtLeastAsTight}
-use Rattle.rules.specs.Bound.{ports, depth}
+use Rattle.rules.specs.Bound.{ports, depth, hopBound, mostHops, roomForAll}
 use Rattle.rules.proofs.Logic.{clash}
-use Rattle.rules.proofs.Sound.{all-fine}
+use Rattle.rules.proofs.Sound.{all-fine, no-fault-nested}
 use Rattle.rules.proofs.Entered.{host-route, endpoint-answer, any-answer, Fit, readable-fit, Entered, endpoint-entered, endpoint-route, origin-case}
 use Rattle.rules.proofs.Accepted.{Readable, Accepted, accepted-read, result-past, result-accepted, accepted-result}
-use Rattle.rules.proofs.Covered.{claimed-above, top-not-sent, sent-answerable}
+use Rattle.rules.proofs.Covered.{unvalidated, claimed-above, top-not-sent, sent-answerable}
 use Rattle.rules.proofs.Steps.{Ascends, ascends}
 use Rattle.rules.proofs.Hops.{ports-depth, depth-most, top-hops, up-hops}
 use Rattle.rules.proofs.Unique.{one-way}
 use Rattle.rules.proofs.Alike.{same-count, same-kind, same-shape, same-origin}
 use Rattle.rules.proofs.Tighter.{tight-up}
-use Rattle.rules.proofs.Strict.{top-defined, up-defined, up-locked}
+use Rattle.rules.proofs.Strict.{isUndefined, top-defined, up-defined, up-locked}
 
 -- 1. Tighter never opens. Two accepted snapshots alike in every byte but the Control registers and the vectors, the second at least as
 -- tight as the first: a memory request from an endpoint that the second delivers unvalidated has the very same answer under the first.
@@ -52,7 +52,7 @@ tighter-never-opens old new now o h room r i bytes alike tight ok ans e req del 
     let e-old : IsEndpoint old o = rw (same-count old new alike, same-kind old new alike o) e in
     let now-up : up (shapeOf new) (settingOf new) (tlpOf h) (shapeOf new .parent o) ≡ r = sym (endpoint-route new o h (fit .few) e) ∙ a .route-is in
     let one : up (shapeOf new) (settingOf old) (tlpOf h) (shapeOf new .parent o) ≡ up (shapeOf new) (settingOf new) (tlpOf h) (shapeOf new .parent o) =
-    tight-up old new bytes alike tight (tlpOf h) req (fit .formed) (fit .few) (shapeOf new .parent o) (inn .present) (inn .port)
+    tight-up old new bytes alike tight (tlpOf h) req (fit .formed) (no-fault-nested new (fit .faultless)) (fit .few) (shapeOf new .parent o) (inn .present) (inn .port)
     (ap (λ (x : Trip). unvalidated (x .end)) now-up ∙ ap unvalidated del) in
     accepted-result old now o h room r
     (record {
@@ -93,9 +93,9 @@ pub hop-bound :
     (s : List ℕ) (now o : ℕ) (h : List ℕ) (room : ℕ) (r : Trip)
     → result s now o h room ≡ answered r
     → IsEndpoint s o
-    → length (r .hops) ≤ 2 * depth (shapeOf s) + 1
+    → length (r .hops) ≤ hopBound (shapeOf s)
 hop-bound s now o h room r ans e =
-    endpoint-answer s now o h room r ans (λ (x : Trip). length (x .hops) ≤ 2 * depth (shapeOf s) + 1) e
+    endpoint-answer s now o h room r ans (λ (x : Trip). length (x .hops) ≤ hopBound (shapeOf s)) e
     (λ fit p l k.
     let a : length (up (shapeOf s) (settingOf s) (tlpOf h) p .hops) ≤ ports (shapeOf s) p + depth (shapeOf s) + 1 =
     up-hops (shapeOf s) (fit .formed) (tlpOf h) (fit .few) (settingOf s) p l k in
@@ -117,7 +117,7 @@ host-hop-bound s now h room r ans =
 pub never-above-257 :
     (s : List ℕ) (now o : ℕ) (h : List ℕ) (room : ℕ) (r : Trip)
     → result s now o h room ≡ answered r
-    → length (r .hops) ≤ 257
+    → length (r .hops) ≤ mostHops
 never-above-257 s now o h room r ans =
     let a : Accepted s now o h room r = result-accepted s now o h room r ans in
     let fit : Fit s = readable-fit s now (a .read) in
@@ -125,12 +125,12 @@ never-above-257 s now o h room r ans =
     origin-case s o (a .asked .origin)
     (λ host. let c : result s now complex h room ≡ answered r = rw (eqb-true o complex host) at ans in
     let b : length (r .hops) ≤ depth (shapeOf s) + 1 = host-hop-bound s now h room r c in omega arith)
-    (λ e. let b : length (r .hops) ≤ 2 * depth (shapeOf s) + 1 = hop-bound s now o h room r ans e in omega arith)
+    (λ e. let b : length (r .hops) ≤ hopBound (shapeOf s) = hop-bound s now o h room r ans e in omega arith)
 
 -- so a buffer of 1,028 bytes is always enough: refusal 7 is never given for one.
 pub room-enough :
     (s : List ℕ) (now o : ℕ) (h : List ℕ) (room i : ℕ)
-    → 1028 ≤ room
+    → roomForAll ≤ room
     → result s now o h room ≡ refused 7 i → ⊥
 unfolding fits through
 room-enough s now o h room i enough ref =
@@ -138,7 +138,7 @@ room-enough s now o h room i enough ref =
     let ans : result s now o h (4 * length (routed s o h .hops)) ≡ answered (routed s o h) =
     accepted-result s now o h (4 * length (routed s o h .hops)) (routed s o h)
     (record { read = read; asked = asked; room-for = le-leb (4 * length (routed s o h .hops)) (4 * length (routed s o h .hops)) (omega arith); route-is = refl }) in
-    let b : length (routed s o h .hops) ≤ 257 = never-above-257 s now o h (4 * length (routed s o h .hops)) (routed s o h) ans in
+    let b : length (routed s o h .hops) ≤ mostHops = never-above-257 s now o h (4 * length (routed s o h .hops)) (routed s o h) ans in
     let f : fits (routed s o h) room ≡ true = le-leb (4 * length (routed s o h .hops)) room (omega arith) in
     let z : answered (routed s o h) ≡ refused 7 i = rw f at last in
     let c : _≡_ {A = ℕ} 0 1 = cc in
@@ -151,9 +151,8 @@ pub one-way-only :
     → OneWay (shapeOf s) t
 unfolding shapeOf
 one-way-only s now t ok =
-    let read : Readable s now = accepted-read s now ok in
-    let fit : Fit s = readable-fit s now read in
-    one-way s (all-fine s (read .faultless)) (fit .formed) (fit .few) t
+    let fit : Fit s = readable-fit s now (accepted-read s now ok) in
+    one-way s (all-fine s (fit .faultless)) (fit .formed) (fit .few) t
 
 -- a TLP that port p sends up, because p or its sibling port q covers it, is covered at the port above, and so at every port above;
 pub covered-above :
@@ -168,7 +167,7 @@ covered-above s now t p q ok at-p r at-q e c =
     let fit : Fit s = readable-fit s now (accepted-read s now ok) in
     let x : Ascends (shapeOf s) p = ascends (shapeOf s) (fit .formed) p (at-p .0) (at-p .1) r in (
       (x .present, x .port),
-      claimed-above (shapeOf s) (fit .formed) (fit .few) t p q (at-p .0) (at-p .1) r
+      claimed-above (shapeOf s) (fit .formed) (no-fault-nested s (fit .faultless)) (fit .few) t p q (at-p .0) (at-p .1) r
           (record { present = at-q .0; port = at-q .1; sibling = e; covering = c }),
     )
 
@@ -182,4 +181,4 @@ pub sent-up-is-answered-for :
 sent-up-is-answered-for s now o h room r ans =
     any-answer s now o h room r ans (λ (x : Trip). wasSentUp (x .hops) ≡ true → Answerable (x .end))
     (λ sent. clash sent (top-not-sent (shapeOf s) (tlpOf h) false))
-    (λ fit. sent-answerable (shapeOf s) (settingOf s) (tlpOf h) (fit .formed) (fit .few))
+    (λ fit. sent-answerable (shapeOf s) (settingOf s) (tlpOf h) (fit .formed) (no-fault-nested s (fit .faultless)) (fit .few))

@@ -16,11 +16,11 @@ use Rattle.rules.specs.Fabric.{shapeOf, settingOf}
 use Rattle.rules.specs.Cover.{covers, peerOf}
 use Rattle.rules.specs.Decide.{asAddressed, badSource, badTranslation, handling, peerHandling, direct, handled, toPeer, onward, pastParent, decide}
 use Rattle.rules.specs.Route.{above, before, hop, hopUp, up}
-use Rattle.rules.specs.Demand.{WellFormed, AreBytes, IsPort, unvalidated}
+use Rattle.rules.specs.Demand.{WellFormed, Nested, AreBytes, IsPort}
 use Rattle.rules.specs.Tight.{Alike, TightAt, AtLeastAsTight}
 use Rattle.rules.proofs.Logic.{clash, redirect-no-direct, violation-no-direct, both, and-both, implies}
 use Rattle.rules.proofs.Steps.{Claims, Passed, decide-case, Ascends, ascends, up-step, up-induction}
-use Rattle.rules.proofs.Covered.{checked-validated, claimed-above, covered-answerable, answerable-validated}
+use Rattle.rules.proofs.Covered.{unvalidated, checked-validated, claimed-above, covered-answerable, answerable-validated}
 use Rattle.rules.proofs.Alike.{same-capability}
 
 -- R on gives direct only with E on and the bit clear
@@ -106,15 +106,15 @@ module _ (old new : List ℕ) (bytes : AreBytes new) (alike : Alike old new) (ti
       rw (source-tight (ok .source), translation-tight (ok .translation), n, e, r, c)
 
 module _ (old new : List ℕ) (bytes : AreBytes new) (alike : Alike old new) (tight : AtLeastAsTight old new) (t : Tlp) (req : t .request ≡ true)
-    (wf : WellFormed (shapeOf new)) (few : shapeOf new .count ≤ 256) where
+    (wf : WellFormed (shapeOf new)) (nest : Nested (shapeOf new)) (few : shapeOf new .count ≤ 256) where
   -- what the port above delivers unvalidated was not sent up
   up-not-sent : (p q : ℕ) → p < shapeOf new .count → isPort (shapeOf new .kind p) ≡ true → isRoot (shapeOf new .kind p) ≡ false
       → Claims (shapeOf new) t p q → unvalidated (up (shapeOf new) (settingOf new) t (above (shapeOf new) p) .end) ≡ false
   up-not-sent p q l k r c =
       let x : Ascends (shapeOf new) p = ascends (shapeOf new) wf p l k r in
       answerable-validated (up (shapeOf new) (settingOf new) t (above (shapeOf new) p) .end)
-      (covered-answerable (shapeOf new) (settingOf new) t wf few (above (shapeOf new) p) (x .present) (x .port)
-      (claimed-above (shapeOf new) wf few t p q l k r c))
+      (covered-answerable (shapeOf new) (settingOf new) t wf nest few (above (shapeOf new) p) (x .present) (x .port)
+      (claimed-above (shapeOf new) wf nest few t p q l k r c))
 
   -- one step of the first setting, where its decision is known
   old-step : (p : ℕ) (m : Move) → p < shapeOf new .count → isPort (shapeOf new .kind p) ≡ true → decide (shapeOf new) (settingOf old) t p ≡ m

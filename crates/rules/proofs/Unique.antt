@@ -1,24 +1,26 @@
 -- At most one sibling covers a TLP, and a port has at most one child. Assumes nothing.
 use mathlib.Core.Path.{_≡_, sym, _∙_}
-use mathlib.Core.Bool.{true, false, _&&_, _||_, not}
+use mathlib.Core.Bool.{true, false, _||_}
 use mathlib.Core.List.{List}
 use Prim.Native.Nat.{ℕ, _≤_, _<_}
 use native.Mathlib.Omega.{arith}
-use lib.Dec.{eqb, leb}
+use lib.Dec.{leb}
 use borrow.Author.Tests.{eqb-true, eqb-false, eq-eqb}
 use Rattle.rules.specs.declared.Target.{Target}
 use Rattle.rules.specs.declared.Target.the-variants.{Address, Id}
 use Rattle.rules.specs.declared.Tlp.{Tlp}
 use Rattle.rules.specs.Below.{anyBelow}
 use Rattle.rules.specs.Bytes.{within}
-use Rattle.rules.specs.Snapshot.{count, kind, parent, secondary, subordinate, first, last, isOpen, isRoot, isUpstream, isDownstream, isEndpoint, isPort, isBridge}
+use Rattle.rules.specs.Snapshot.{count, kind, parent, secondary, subordinate, first, last, isRoot, isUpstream, isDownstream, isEndpoint, isPort, isBridge}
 use Rattle.rules.specs.Records.{siblings, standsAlone, busesMeet, numbersMeet, overlap, rangesMeet, clash as meet, clashes, fine}
 use Rattle.rules.specs.Fabric.{inRange, holds, shapeOf}
-use Rattle.rules.specs.Cover.{coversTarget, covers, isPeer, isEntry, isChild, isWayOn}
+use Rattle.rules.specs.Cover.{coversTarget, covers, isChild}
 use Rattle.rules.specs.Demand.{WellFormed, OneWay}
-use Rattle.rules.proofs.Logic.{clash, both, and-both, either, or-false, or-right, not-true, leb-trans}
+use Rattle.rules.proofs.Logic.{clash, both, and-both, either, or-false, or-right, leb-trans}
 use Rattle.rules.proofs.Loops.{Some, any-some, some-any, any-false}
-use Rattle.rules.proofs.Sound.{downstream-port, port-no-endpoint, rule, kind-range, bridge}
+use Rattle.rules.proofs.Covered.{parent-present, under-no-port}
+use Rattle.rules.proofs.Steps.{peer-parts, entry-parts, way-parts}
+use Rattle.rules.proofs.Sound.{in-parts, port-no-endpoint, clashes-rule, kind-range, bridge}
 
 -- what the rules say of a record and an earlier sibling
 record Apart (s : List ℕ) (i j : ℕ) : Type 0 where
@@ -29,7 +31,7 @@ record Apart (s : List ℕ) (i j : ℕ) : Type 0 where
 apart : (s : List ℕ) (i j : ℕ) → fine s i ≡ true → j < i → parent s i ≡ parent s j → Apart s i j
 unfolding clashes meet
 apart s i j ok l e =
-    let none : meet s i j ≡ false = any-false i (meet s i) (not-true (rule s i ok 8)) j l in
+    let none : meet s i j ≡ false = any-false i (meet s i) (clashes-rule s i ok) j l in
     let any : (standsAlone (kind s i) || busesMeet s i j || numbersMeet s i j || rangesMeet s i j) ≡ false = rw (eq-eqb _ _ e) at none in
     let (abc, d) = or-false (standsAlone (kind s i) || busesMeet s i j || numbersMeet s i j) (rangesMeet s i j) any in
     let (ab, _) = or-false (standsAlone (kind s i) || busesMeet s i j) (numbersMeet s i j) abc in
@@ -38,13 +40,11 @@ apart s i j ok l e =
 
 -- two ranges with one address overlap
 overlap-at : (s : List ℕ) (i k j m a : ℕ) → inRange s i a k ≡ true → inRange s j a m ≡ true → overlap s i k j m ≡ true
-unfolding inRange overlap
+unfolding overlap
 overlap-at s i k j m a x y =
-    let (o, x2) = both (isOpen s i k) (leb (first s i k) a && leb a (last s i k)) x in
-    let (x3, x4) = both (leb (first s i k) a) (leb a (last s i k)) x2 in
-    let (n, y2) = both (isOpen s j m) (leb (first s j m) a && leb a (last s j m)) y in
-    let (y3, y4) = both (leb (first s j m) a) (leb a (last s j m)) y2 in
-    and-both o (and-both n (and-both (leb-trans (first s i k) a (last s j m) x3 y4) (leb-trans (first s j m) a (last s i k) y3 x4)))
+    let (o, x1, x2) = in-parts s i a k x in
+    let (n, y1, y2) = in-parts s j a m y in
+    and-both o (and-both n (and-both (leb-trans (first s i k) a (last s j m) x1 y2) (leb-trans (first s j m) a (last s i k) y1 x2)))
 
 ranges-at : (s : List ℕ) (i j a : ℕ) → holds s i a ≡ true → holds s j a ≡ true → rangesMeet s i j ≡ true
 unfolding holds rangesMeet
@@ -83,12 +83,8 @@ module _ (s : List ℕ) (ok : (i : ℕ) → i < count s → fine s i ≡ true) (
   sibling-port i j l m e k =
       either (isPort (kind s j)) (λ x. x)
       (λ n.
-      let under : isPort (kind s (parent s j)) ≡ true = wf .under-port j m n in
       let nr : isRoot (kind s j) ≡ false = or-false (isRoot (kind s j)) (isDownstream (kind s j)) n .0 in
-      let low : parent s j < j = wf .lower j m nr in
-      either (isRoot (kind s i)) (λ r. let z : parent s i ≡ 0xFFFF = wf .parentless i l r in absurd (omega arith))
-      (λ r. let two : kind s (parent s i) ≡ 2 = eqb-true _ _ (wf .under-upstream i l (downstream-port (kind s i) k r)) in
-      let two-j : kind s (parent s j) ≡ 2 = rw e at two in clash under (rw two-j)))
+      clash k (under-no-port (shapeOf s) wf few (parent s j) i (parent-present (shapeOf s) wf j m nr) (wf .under-port j m n) l e))
 
   port-bridge : (i : ℕ) → i < count s → isPort (kind s i) ≡ true → (isEndpoint (kind s i) ≡ false) × (isBridge (kind s i) ≡ true)
   port-bridge i l k =
@@ -117,14 +113,11 @@ module _ (s : List ℕ) (ok : (i : ℕ) → i < count s → fine s i ≡ true) (
       let b : j < i → ⊥ = λ b. earlier (t .target) i j l b e x y in
       omega (arith, a, b)
 
-  -- of two children of a port the later would be a port, which stands under no port
+  -- of two children of a port the later would be a port
   later-child : (p b c : ℕ) → p < count s → isPort (kind s p) ≡ true → b < count s → c < b → parent s b ≡ p → parent s c ≡ p → ⊥
   unfolding shapeOf
   later-child p b c l k m d e f =
-      let port-b : isPort (kind s b) ≡ true = not-alone b m (apart s b c (ok b m) d (e ∙ sym f) .alone) in
-      either (isRoot (kind s b)) (λ r. let z : parent s b ≡ 0xFFFF = wf .parentless b m r in omega arith)
-      (λ r. let two : kind s (parent s b) ≡ 2 = eqb-true _ _ (wf .under-upstream b m (downstream-port (kind s b) port-b r)) in
-      let two-p : kind s p ≡ 2 = rw e at two in clash k (rw two-p))
+      clash (not-alone b m (apart s b c (ok b m) d (e ∙ sym f) .alone)) (under-no-port (shapeOf s) wf few p b l k m e)
 
   pub one-child : (p b c : ℕ) → p < count s → isPort (kind s p) ≡ true → b < count s → c < count s → parent s b ≡ p → parent s c ≡ p → b ≡ c
   one-child p b c l k m n e f =
@@ -132,32 +125,22 @@ module _ (s : List ℕ) (ok : (i : ℕ) → i < count s → fine s i ≡ true) (
       let y : b < c → ⊥ = λ d. later-child p c b l k n d f e in
       omega (arith, x, y)
 
-  -- the two parts of each test that tell siblings
-  peer-parts : (t : Tlp) (p q : ℕ) → isPeer (shapeOf s) t p q ≡ true → (parent s q ≡ parent s p) × (covers (shapeOf s) t q ≡ true)
-  unfolding isPeer shapeOf
-  peer-parts t p q h =
-      let (x, c) = both (isPort (kind s q) && eqb (parent s q) (parent s p) && not (eqb q p)) (covers (shapeOf s) t q) h in
-      let (y, _) = both (isPort (kind s q) && eqb (parent s q) (parent s p)) (not (eqb q p)) x in
-      (eqb-true _ _ (both (isPort (kind s q)) (eqb (parent s q) (parent s p)) y .1), c)
-
-  entry-parts : (t : Tlp) (q : ℕ) → q < count s → isEntry (shapeOf s) t q ≡ true → (parent s q ≡ 0xFFFF) × (covers (shapeOf s) t q ≡ true)
-  unfolding isEntry shapeOf
-  entry-parts t q l h = let (r, c) = both (isRoot (kind s q)) (covers (shapeOf s) t q) h in (wf .parentless q l r, c)
-
-  way-parts : (t : Tlp) (c q : ℕ) → isWayOn (shapeOf s) t c q ≡ true → (parent s q ≡ c) × (covers (shapeOf s) t q ≡ true)
-  unfolding isWayOn shapeOf
-  way-parts t c q h = let (e, x) = both (eqb (parent s q) c) (covers (shapeOf s) t q) h in (eqb-true _ _ e, x)
-
   pub one-way : (t : Tlp) → OneWay (shapeOf s) t
   unfolding shapeOf isChild
   one-way t =
       record {
         sibling = one-covers t;
         peer = λ p q r l m x y.
-            let (a, c) = peer-parts t p q x in let (b, d) = peer-parts t p r y in one-covers t q r l m (a ∙ sym b) c d;
+            let (_, a, c) = peer-parts (shapeOf s) t p q x in
+            let (_, b, d) = peer-parts (shapeOf s) t p r y in
+            one-covers t q r l m (a ∙ sym b) c d;
         entry = λ q r l m x y.
-            let (a, c) = entry-parts t q l x in let (b, d) = entry-parts t r m y in one-covers t q r l m (a ∙ sym b) c d;
+            let (a, c) = entry-parts (shapeOf s) t q x in
+            let (b, d) = entry-parts (shapeOf s) t r y in
+            one-covers t q r l m (wf .parentless q l a ∙ sym (wf .parentless r m b)) c d;
         way-on = λ n q r l m x y.
-            let (a, c) = way-parts t n q x in let (b, d) = way-parts t n r y in one-covers t q r l m (a ∙ sym b) c d;
+            let (a, c) = way-parts (shapeOf s) t n q x in
+            let (b, d) = way-parts (shapeOf s) t n r y in
+            one-covers t q r l m (a ∙ sym b) c d;
         child = λ p b c l k m n x y. one-child p b c l k m n (eqb-true _ _ x) (eqb-true _ _ y);
       }

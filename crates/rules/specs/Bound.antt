@@ -1,6 +1,6 @@
--- How deep a fabric is.
+-- How deep a fabric is, and how many hops that allows.
 use mathlib.Core.Bool.{cond}
-use Prim.Native.Nat.{ℕ, zero, suc, _+_, max}
+use Prim.Native.Nat.{ℕ, zero, suc, _+_, _*_, max}
 use Rattle.rules.specs.Snapshot.{isRoot, isPort}
 use Rattle.rules.specs.Fabric.{Shape}
 
@@ -20,3 +20,15 @@ most (suc n) f = max (most n f) (f n)
 -- D: the most ports on the way from any record up to the root complex
 unfoldable pub depth : Shape → ℕ
 depth sh = most (sh .count) (ports sh)
+
+-- an endpoint's TLP makes at most 2D + 1 hops,
+abbrev pub hopBound : Shape → ℕ
+hopBound sh = 2 * depth sh + 1
+
+-- never above 257
+abbrev pub mostHops : ℕ
+mostHops = 257
+
+-- a buffer of so many bytes has room for all of them
+abbrev pub roomForAll : ℕ
+roomForAll = 1028

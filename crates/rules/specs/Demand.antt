@@ -1,6 +1,6 @@
 -- What the theorems speak of: what accepted records are to each other, settings of a whole snapshot, and ends of a route.
 use mathlib.Core.Path.{_≡_}
-use mathlib.Core.Bool.{Bool, true, false, _||_, not}
+use mathlib.Core.Bool.{Bool, true, false, _||_}
 use mathlib.Core.List.{List, [], _∷_}
 use Prim.Native.Nat.{ℕ, _≤_, _<_}
 use lib.Dec.{eqb}
@@ -12,10 +12,10 @@ use Rattle.rules.specs.Snapshot.{count, kind, control, isRoot, isUpstrea
 use Rattle.rules.specs.Fabric.{Shape}
 use Rattle.rules.specs.declared.Tlp.{Tlp}
 use Rattle.rules.specs.Cover.{covers, isPeer, isEntry, isChild, isWayOn}
-use Rattle.rules.specs.Decide.{complex, redirectedUp, upByU}
+use Rattle.rules.specs.Decide.{complex, redirectedUp, upByU, reflected}
 use Rattle.rules.specs.Route.{Hop}
 
--- What the record rules give of every record, as routing sees it.
+-- What the record rules give of the tree, as routing sees it.
 pub record WellFormed (sh : Shape) : Type 0 where
   -- a record that is no root port has a parent, of lower index; a root port's is FFFFh
   pub lower : (i : ℕ) → i < sh .count → isRoot (sh .kind i) ≡ false → sh .parent i < i
@@ -23,6 +23,9 @@ pub record WellFormed (sh : Shape) : Type 0 where
   -- kind 3 stands under kind 2, kinds 2 and 4 under a port
   pub under-upstream : (i : ℕ) → i < sh .count → isDownstream (sh .kind i) ≡ true → isUpstream (sh .kind (sh .parent i)) ≡ true
   pub under-port : (i : ℕ) → i < sh .count → isPort (sh .kind i) ≡ false → isPort (sh .kind (sh .parent i)) ≡ true
+
+-- What they give of ranges and buses: what a record covers its parent covers.
+pub record Nested (sh : Shape) : Type 0 where
   -- an address that a record's ranges have its parent's windows have
   pub holds-above : (i : ℕ) → i < sh .count → isRoot (sh .kind i) ≡ false
       → (a : ℕ) → sh .holds i a ≡ true → sh .holds (sh .parent i) a ≡ true
@@ -79,25 +82,10 @@ pub record LockedAt (s : List ℕ) (p : ℕ) : Type 0 where
 abbrev pub Locked : List ℕ → Type 0
 Locked s = (p : ℕ) → IsPort s p → LockedAt s p
 
--- a delivery that is not checked is unvalidated
-abbrev pub unvalidated : Outcome → Bool
-unvalidated (Delivered i checked) = not checked
-unvalidated Host = false
-unvalidated (Unclaimed i) = false
-unvalidated (Undefined i) = false
-unvalidated (Violated letter p abort) = false
-
-abbrev pub isUndefined : Outcome → Bool
-isUndefined (Delivered i checked) = false
-isUndefined Host = false
-isUndefined (Unclaimed i) = false
-isUndefined (Undefined i) = true
-isUndefined (Violated letter p abort) = false
-
--- some hop was redirected up, or up by U
+-- some hop was redirected up, up by U, or reflected
 abbrev pub wasSentUp : List Hop → Bool
 wasSentUp [] = false
-wasSentUp (h ∷ l) = eqb (h .action) redirectedUp || eqb (h .action) upByU || wasSentUp l
+wasSentUp (h ∷ l) = eqb (h .action) redirectedUp || eqb (h .action) upByU || eqb (h .action) reflected || wasSentUp l
 
 -- The ends of a TLP that was sent up: a checked delivery, unclaimed at a record below the root complex that reflected it,
 -- violation V, B or X, or undefined; not the host, and no delivery that is unvalidated.
