@@ -92,8 +92,7 @@ fn windows_meet(s: &[u8], i: u16, j: u16) -> bool
     requires { ⌜ (168 + 144 * i ≤ length (now s)) × (168 + 144 * j ≤ length (now s)) ⌝ }
     ensures { λ r. ⌜ r ≡ windowsMeet (now (s .entry)) i j ⌝ }
 {
-    (overlap(s, i, 0, j, 0) | overlap(s, i, 0, j, 1))
-        | (overlap(s, i, 1, j, 0) | overlap(s, i, 1, j, 1))
+    overlaps(s, i, 0, j, 2) | overlaps(s, i, 1, j, 2)
 }
 
 fn any_meet(s: &[u8], i: u16, j: u16) -> bool

@@ -7,4 +7,4 @@ use Rattle.snapshot.proofs.ranges.windows_meet.Tie as tie
 pub windows-meet-spec : {M : Type 1} → statement M
 unfolding anyBelow
 windows-meet-spec = tie.close (tie.spec
-    (λ c κs. search needs) (λ c κs. search needs) (λ c κs. search needs) (λ c κs. search needs) (λ c. cc))
+    (λ c κs. search needs) (λ c κs. search needs) (λ c. cc))
