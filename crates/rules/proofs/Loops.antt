@@ -9,7 +9,7 @@ use native.Mathlib.Omega.{arith}
 use Rattle.rules.specs.declared.Found.{Found}
 use Rattle.rules.specs.declared.Found.the-variants.{At, Nothing}
 use Rattle.rules.specs.Below.{allBelow, anyBelow, findFrom}
-use Rattle.rules.proofs.Logic.{clash, both, and-both, either, or-case, or-left, or-right}
+use Rattle.rules.proofs.Logic.{clash, both, and-both, either, or-case, or-left, or-right, same-test}
 
 -- anyBelow
 
@@ -53,10 +53,26 @@ some-any (suc n) f j l h = or-case-lt (some-any n f j) h
 pub any-false : (n : ℕ) (f : ℕ → Bool) → anyBelow n f ≡ false → (j : ℕ) → j < n → f j ≡ false
 any-false n f h j l = either (f j) (λ p. clash (some-any n f j l p) h) (λ q. q)
 
+-- numbers at which the test fails may be left out
+pub any-cut : (f : ℕ → Bool) (m n : ℕ) → m ≤ n → ((j : ℕ) → m ≤ j → j < n → f j ≡ false) → anyBelow n f ≡ anyBelow m f
+any-cut f m n l h = same-test (anyBelow n f) (anyBelow m f) (λ p. low (any-some n f p)) (λ p. all (any-some m f p))
+  where
+    low : Some n f → anyBelow m f ≡ true
+    low w =
+        let d : m ≤ w .which → ⊥ = λ (a : m ≤ w .which). clash (w .passes) (h (w .which) a (w .below)) in
+        some-any m f (w .which) (omega (arith, d)) (w .passes)
+
+    all : Some m f → anyBelow n f ≡ true
+    all w = some-any n f (w .which) (omega arith) (w .passes)
+
+pub any-miss : (f : ℕ → Bool) (n : ℕ) → ((j : ℕ) → j < n → f j ≡ false) → anyBelow n f ≡ false
+any-miss f n h = any-cut f 0 n (omega arith) (λ j a b. h j b) ∙ any-none f
+
+-- one test for another
 pub any-same : (f g : ℕ → Bool) (n : ℕ) → ((j : ℕ) → j < n → f j ≡ g j) → anyBelow n f ≡ anyBelow n g
 unfolding anyBelow
 any-same f g zero h = refl
-any-same f g (suc n) h = rw (any-same f g n (λ j l. h j (omega arith)), h n (omega arith))
+any-same f g (suc n) h = rw (any-same f g n (λ j b. h j (omega arith)), h n (omega arith))
 
 -- allBelow
 

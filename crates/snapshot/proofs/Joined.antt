@@ -1,4 +1,4 @@
--- The rules of a record joined: the two that are tested first, and the seven behind them. Assumes nothing.
+-- The rules of a record joined: the two that are tested first, the six behind them, and those of siblings. Assumes nothing.
 use mathlib.Core.Path.{_≡_, refl, sym, _∙_, ap}
 use mathlib.Core.Bool.{Bool, true, false, _&&_, not, and-true}
 use mathlib.Core.List.{List}
@@ -7,6 +7,7 @@ use native.Mathlib.Omega.{arith}
 use Rattle.rules.specs.Below.{findFrom}
 use Rattle.rules.specs.Snapshot.{count}
 use Rattle.rules.specs.Records.{kindFine, parentFine, blankFine, busesFine, rangesFine, ownOverlap, nestedFine, acsFine, clashes, fine, faulty, lowestFaulty}
+use Rattle.snapshot.specs.Parts.{fineAlone}
 use Rattle.rules.proofs.Logic.{clash, both}
 
 and-assoc : (a b c : Bool) → (a && b && c) ≡ (a && (b && c))
@@ -23,23 +24,49 @@ not-both true true x h = clash refl h
 not-both true false x h = refl
 not-both false p x h = refl
 
-seven : (b u r o n a c : Bool) → (b && u && r && o && n && a && c) ≡ (b && (u && (r && (o && (n && (a && (c && true)))))))
-seven b u r o n a c = simp (and-assoc, and-true)
+six : (b u r o n a : Bool) → (b && u && r && o && n && a) ≡ (b && (u && (r && (o && (n && (a && true))))))
+six b u r o n a = simp (and-assoc, and-true)
 
 module _ (s : List ℕ) (i : ℕ) {k p : Bool} (ek : k ≡ kindFine s i) (ep : p ≡ parentFine s i) where
   pub parent-so : (k && p) ≡ true → parentFine s i ≡ true
   parent-so h = sym ep ∙ both k p h .1
 
-  pub fine-not : (k && p) ≡ false → false ≡ fine s i
-  unfolding fine
-  fine-not h = sym (not-both (kindFine s i) (parentFine s i) _ (rw (ek, ep) at h))
+  pub alone-not : (k && p) ≡ false → false ≡ fineAlone s i
+  unfolding fineAlone
+  alone-not h = sym (not-both (kindFine s i) (parentFine s i) _ (rw (ek, ep) at h))
 
-  pub fine-so : {b u r o n a c : Bool} → (k && p) ≡ true → b ≡ blankFine s i → u ≡ busesFine s i → r ≡ rangesFine s i
-      → o ≡ ownOverlap s i → n ≡ nestedFine s i → a ≡ acsFine s i → c ≡ clashes s i → (b && u && r && not o && n && a && not c) ≡ fine s i
-  unfolding fine
-  fine-so h eb eu er eo en ea ec =
-      rw (eb, eu, er, eo, en, ea, ec)
-      (seven (blankFine s i) (busesFine s i) (rangesFine s i) (not (ownOverlap s i)) (nestedFine s i) (acsFine s i) (not (clashes s i)) ∙ sym (first-two (kindFine s i) (parentFine s i) _ (rw (ek, ep) at h)))
+  pub alone-so : {b u r o n a : Bool} → (k && p) ≡ true → b ≡ blankFine s i → u ≡ busesFine s i → r ≡ rangesFine s i
+      → o ≡ ownOverlap s i → n ≡ nestedFine s i → a ≡ acsFine s i → (b && u && r && not o && n && a) ≡ fineAlone s i
+  unfolding fineAlone
+  alone-so h eb eu er eo en ea =
+      rw (eb, eu, er, eo, en, ea)
+      (six (blankFine s i) (busesFine s i) (rangesFine s i) (not (ownOverlap s i)) (nestedFine s i) (acsFine s i)
+      ∙ sym (first-two (kindFine s i) (parentFine s i) _ (rw (ek, ep) at h)))
+
+-- the rules of siblings come last
+pub fine-split : (s : List ℕ) (i : ℕ) → fine s i ≡ (fineAlone s i && not (clashes s i))
+unfolding fine fineAlone
+fine-split s i = simp (and-assoc, and-true)
+
+module _ (s : List ℕ) (i : ℕ) {a : Bool} (ea : a ≡ fineAlone s i) where
+  pub fine-so : {c : Bool} → a ≡ true → c ≡ clashes s i → not c ≡ fine s i
+  fine-so h ec = rw (fine-split s i, ← ea, h, ec)
+
+  pub fine-not : a ≡ false → false ≡ fine s i
+  fine-not h = rw (fine-split s i, ← ea, h)
+
+module _ (s : List ℕ) (i : ℕ) where
+  pub alone-parent : fineAlone s i ≡ true → parentFine s i ≡ true
+  unfolding fineAlone
+  alone-parent h = both (parentFine s i) _ (both (kindFine s i) _ h .1) .0
+
+  pub alone-ranges : fineAlone s i ≡ true → rangesFine s i ≡ true
+  unfolding fineAlone
+  alone-ranges h =
+      both (rangesFine s i) _ (both (busesFine s i) _ (both (blankFine s i) _ (both (parentFine s i) _ (both (kindFine s i) _ h .1) .1) .1) .1) .0
+
+  pub fine-alone : fine s i ≡ true → fineAlone s i ≡ true
+  fine-alone h = both (fineAlone s i) (not (clashes s i)) (sym (fine-split s i) ∙ h) .0
 
 -- the search for the lowest faulty record, as it starts
 pub faulty-start : (s : List ℕ) (n : ℕ) → n ≡ count s → lowestFaulty s ≡ findFrom (faulty s) (n - 0) 0

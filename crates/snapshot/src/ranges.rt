@@ -13,7 +13,7 @@ ghost use Prim.Native.Nat.{_+_, _*_, _≤_, _<_};
 ghost use lib.ListN.{length};
 ghost use Rattle.rules.specs.Below.{anyBelow, allBelow};
 ghost use Rattle.rules.specs.Records.{parentFine, windowFine, rangeFine, rangesFine, overlap, ownOverlap, rangesMeet, inside, nestedFine};
-ghost use Rattle.snapshot.specs.Parts.{rangeNested};
+ghost use Rattle.snapshot.specs.Parts.{rangeNested, windowsMeet};
 
 pub fn window_fine(k: u16, first: u64, last: u64) -> bool
     ensures { λ r. ⌜ r ≡ windowFine k first last ⌝ }
@@ -87,7 +87,15 @@ pub fn own_overlap(s: &[u8], i: u16) -> bool
     found
 }
 
-pub fn ranges_meet(s: &[u8], i: u16, j: u16) -> bool
+// Of bridges no range but the two windows is open.
+fn windows_meet(s: &[u8], i: u16, j: u16) -> bool
+    requires { ⌜ (168 + 144 * i ≤ length (now s)) × (168 + 144 * j ≤ length (now s)) ⌝ }
+    ensures { λ r. ⌜ r ≡ windowsMeet (now (s .entry)) i j ⌝ }
+{
+    overlaps(s, i, 0, j, 2) | overlaps(s, i, 1, j, 2)
+}
+
+fn any_meet(s: &[u8], i: u16, j: u16) -> bool
     requires { ⌜ (168 + 144 * i ≤ length (now s)) × (168 + 144 * j ≤ length (now s)) ⌝ }
     ensures { λ r. ⌜ r ≡ rangesMeet (now (s .entry)) i j ⌝ }
 {
@@ -96,6 +104,16 @@ pub fn ranges_meet(s: &[u8], i: u16, j: u16) -> bool
         found = found | overlaps(s, i, k, j, 6);
     }
     found
+}
+
+pub fn ranges_meet(s: &[u8], i: u16, j: u16) -> bool
+    requires { ⌜ (168 + 144 * i ≤ length (now s)) × (168 + 144 * j ≤ length (now s)) × (rangesFine (now s) i ≡ true) × (rangesFine (now s) j ≡ true) ⌝ }
+    ensures { λ r. ⌜ r ≡ rangesMeet (now (s .entry)) i j ⌝ }
+{
+    if is_bridge(kind(s, i)) & is_bridge(kind(s, j)) {
+        return windows_meet(s, i, j);
+    }
+    any_meet(s, i, j)
 }
 
 pub fn inside(s: &[u8], i: u16, k: u16, p: u16, m: u16) -> bool

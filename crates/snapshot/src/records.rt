@@ -14,11 +14,12 @@ ghost use Prim.Native.Nat.{_+_, _*_, _≤_};
 ghost use lib.ListN.{length};
 ghost use Rattle.rules.specs.Records.{fine, lowestFaulty};
 ghost use Rattle.rules.specs.Snapshot as snapshot;
+ghost use Rattle.snapshot.specs.Parts.{fineAlone, Earlier};
 
 // The rules past the second read the parent's record, which the second shows to be an earlier one.
-pub fn fine(s: &[u8], i: u16) -> bool
+fn fine_alone(s: &[u8], i: u16) -> bool
     requires { ⌜ 168 + 144 * i ≤ length (now s) ⌝ }
-    ensures { λ r. ⌜ r ≡ fine (now (s .entry)) i ⌝ }
+    ensures { λ r. ⌜ r ≡ fineAlone (now (s .entry)) i ⌝ }
 {
     if kind_fine(s, i) & parent_fine(s, i) {
         return blank_fine(s, i)
@@ -26,8 +27,18 @@ pub fn fine(s: &[u8], i: u16) -> bool
             & ranges_fine(s, i)
             & !own_overlap(s, i)
             & nested_fine(s, i)
-            & acs_fine(s, i)
-            & !clashes(s, i);
+            & acs_fine(s, i);
+    }
+    false
+}
+
+// A record is held against earlier ones once it and they are known to be right by themselves.
+pub fn fine(s: &[u8], i: u16) -> bool
+    requires { ⌜ (168 + 144 * i ≤ length (now s)) × Earlier (now s) i ⌝ }
+    ensures { λ r. ⌜ r ≡ fine (now (s .entry)) i ⌝ }
+{
+    if fine_alone(s, i) {
+        return !clashes(s, i);
     }
     false
 }

@@ -4,14 +4,16 @@ use crate::buses::numbers_meet;
 use crate::fields::kind;
 use crate::fields::parent;
 use crate::kinds::is_endpoint;
+use crate::kinds::is_root;
 use crate::kinds::is_upstream;
 use crate::ranges::ranges_meet;
 ghost use mathlib.Core.Path.{_≡_};
-ghost use mathlib.Core.Bool.{_||_};
-ghost use Prim.Native.Nat.{_+_, _*_, _≤_, _<_};
+ghost use mathlib.Core.Bool.{true, false, _||_};
+ghost use Prim.Native.Nat.{ℕ, _+_, _*_, _≤_, _<_};
 ghost use lib.ListN.{length};
-ghost use Rattle.rules.specs.Records.{standsAlone, busesMeet, numbersMeet, rangesMeet, clash, clashes};
+ghost use Rattle.rules.specs.Records.{parentFine, rangesFine, standsAlone, busesMeet, numbersMeet, rangesMeet, clash, clashes};
 ghost use Rattle.rules.specs.Snapshot as snapshot;
+ghost use Rattle.snapshot.specs.Parts.{fineAlone, Earlier};
 
 fn stands_alone(kind: u8) -> bool
     ensures { λ r. ⌜ r ≡ standsAlone kind ⌝ }
@@ -21,7 +23,7 @@ fn stands_alone(kind: u8) -> bool
 
 // Two siblings have what siblings may not have of each other.
 fn at_odds(s: &[u8], i: u16, j: u16) -> bool
-    requires { ⌜ (168 + 144 * i ≤ length (now s)) × (168 + 144 * j ≤ length (now s)) ⌝ }
+    requires { ⌜ (168 + 144 * i ≤ length (now s)) × (168 + 144 * j ≤ length (now s)) × (rangesFine (now s) i ≡ true) × (rangesFine (now s) j ≡ true) ⌝ }
     ensures { λ r. ⌜ r ≡ (standsAlone (snapshot.kind (now (s .entry)) i) || busesMeet (now (s .entry)) i j || numbersMeet (now (s .entry)) i j || rangesMeet (now (s .entry)) i j) ⌝ }
 {
     stands_alone(kind(s, i)) | buses_meet(s, i, j) | numbers_meet(s, i, j) | ranges_meet(s, i, j)
@@ -29,7 +31,7 @@ fn at_odds(s: &[u8], i: u16, j: u16) -> bool
 
 // Most pairs of records are no siblings, and are done with one look at the parents.
 pub fn clash(s: &[u8], i: u16, j: u16) -> bool
-    requires { ⌜ (168 + 144 * i ≤ length (now s)) × (168 + 144 * j ≤ length (now s)) ⌝ }
+    requires { ⌜ (168 + 144 * i ≤ length (now s)) × (168 + 144 * j ≤ length (now s)) × (rangesFine (now s) i ≡ true) × (rangesFine (now s) j ≡ true) ⌝ }
     ensures { λ r. ⌜ r ≡ clash (now (s .entry)) i j ⌝ }
 {
     if parent(s, i) == parent(s, j) {
@@ -38,12 +40,24 @@ pub fn clash(s: &[u8], i: u16, j: u16) -> bool
     false
 }
 
+// The first record that may be a sibling of i: earlier records stand behind their parents, so that
+// none up to i's parent has the same.
+fn eldest(s: &[u8], i: u16) -> u16
+    requires { ⌜ (168 + 144 * i ≤ length (now s)) × (parentFine (now s) i ≡ true) × Earlier (now s) i ⌝ }
+    ensures { λ r. ⌜ (r ≤ i) × ((j : ℕ) → j < r → clash (now (s .entry)) i j ≡ false) ⌝ }
+{
+    if is_root(kind(s, i)) {
+        return 0;
+    }
+    parent(s, i) + 1
+}
+
 pub fn clashes(s: &[u8], i: u16) -> bool
-    requires { ⌜ 168 + 144 * i ≤ length (now s) ⌝ }
+    requires { ⌜ (168 + 144 * i ≤ length (now s)) × (fineAlone (now s) i ≡ true) × Earlier (now s) i ⌝ }
     ensures { λ r. ⌜ r ≡ clashes (now (s .entry)) i ⌝ }
 {
     let mut found = false;
-    for j in 0..i {
+    for j in eldest(s, i)..i {
         found = found | clash(s, i, j);
     }
     found

@@ -1,23 +1,15 @@
--- `snapshot::ranges::ranges_meet` meets its contract: the loop's turns are those of anyBelow. Assumes nothing.
-use Prim.Native.Nat.{_≤_, _-_}
-use mathlib.Core.Path.{_≡_, sym}
+-- `snapshot::ranges::ranges_meet` meets its contract: two bridges have two windows each, and others may have six ranges. Assumes nothing.
+use mathlib.Core.Path.{_∙_}
+use Rattle.rules.specs.Snapshot.{isBridge}
+use Rattle.rules.proofs.Logic.{both}
+use Rattle.snapshot.proofs.Tested.{tested}
+use Rattle.snapshot.proofs.Windows.{windows-meet}
 use borrow.Author.Needs.{needs}
-use Rattle.rules.specs.Below.{anyBelow}
-use Rattle.rules.specs.Records.{overlap, rangesMeet}
-use Rattle.rules.proofs.Loops.{any-none, any-turn, any-end}
 use Rattle.snapshot.proofs.ranges.ranges_meet.Statement.{statement}
 use Rattle.snapshot.proofs.ranges.ranges_meet.Tie as tie
 
 pub ranges-meet-spec : {M : Type 1} → statement M
-unfolding rangesMeet
-ranges-meet-spec =
-    tie.close
-    (tie.spec
-    (λ s i j found₀ k₀ found k. (k ≤ 6) × (found ≡ anyBelow k (λ m. anyBelow 6 (overlap s i m j))))
-    (λ s i j found₀ k₀ found k. 6 - k)
-    (λ c. (search needs, sym (any-none _)))
-    (λ c κs. search needs)
-    (λ c. search needs)
-    (λ c. search needs)
-    (λ c. (search needs, any-turn _ _ (c .before .before .loop .inv .1) (c .overlaps .ensures)))
-    (λ c. any-end _ _ _ (c .before .loop .inv .1) (search needs) (search needs)))
+ranges-meet-spec = tie.close (tie.spec
+    (λ c κs. search needs) (λ c κs. search needs) (λ c κs. search needs) (λ c κs. search needs) (λ c κs. search needs)
+    (λ c. c .windows-meet .ensures ∙ windows-meet _ _ _ (c .before .before .before .before .before .before .before .pre .2) (c .before .before .before .before .before .before .before .pre .3) (tested isBridge (c .before .before .before .before .is-bridge .ensures) (c .before .before .before .before .before .kind .ensures) (both (c .before .before .before .before .is-bridge .result) (c .before .before .is-bridge2 .result) (c .before .if1 .taken) .0)) (tested isBridge (c .before .before .is-bridge2 .ensures) (c .before .before .before .kind2 .ensures) (both (c .before .before .before .before .is-bridge .result) (c .before .before .is-bridge2 .result) (c .before .if1 .taken) .1)))
+    (λ c κs. search needs) (λ c. search needs))

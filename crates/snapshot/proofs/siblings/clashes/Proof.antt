@@ -1,10 +1,12 @@
--- `snapshot::siblings::clashes` meets its contract: the loop's turns are those of anyBelow. Assumes nothing.
+-- `snapshot::siblings::clashes` meets its contract: no record before the eldest sibling clashes, and the loop's turns are those of
+-- anyBelow. Assumes nothing.
 use Prim.Native.Nat.{_≤_, _-_}
 use mathlib.Core.Path.{_≡_, sym}
 use borrow.Author.Needs.{needs}
 use Rattle.rules.specs.Below.{anyBelow}
 use Rattle.rules.specs.Records.{clash, clashes}
-use Rattle.rules.proofs.Loops.{any-none, any-turn, any-end}
+use Rattle.rules.proofs.Loops.{any-miss, any-turn, any-end}
+use Rattle.snapshot.proofs.Joined.{alone-parent, alone-ranges, fine-alone}
 use Rattle.snapshot.proofs.siblings.clashes.Statement.{statement}
 use Rattle.snapshot.proofs.siblings.clashes.Tie as tie
 
@@ -15,8 +17,9 @@ clashes-spec =
     (tie.spec
     (λ s i found₀ j₀ found j. (j ≤ i) × (found ≡ anyBelow j (clash s i)))
     (λ s i found₀ j₀ found j. i - j)
-    (λ c. (search needs, sym (any-none _)))
-    (λ c κs. search needs)
+    (λ c κs. (search needs, alone-parent _ _ (c .before .pre .1), c .before .pre .2))
+    (λ c. (search needs, sym (any-miss _ _ (c .eldest .ensures .1))))
+    (λ c κs. (search needs, search needs, alone-ranges _ _ (c .before .before .before .before .pre .1), alone-ranges _ _ (fine-alone _ _ (c .before .before .before .before .pre .2 _ (c .loop-test .taken)))))
     (λ c. search needs)
     (λ c. search needs)
     (λ c. (search needs, any-turn _ _ (c .before .before .loop .inv .1) (c .clash .ensures)))

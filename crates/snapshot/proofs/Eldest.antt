@@ -1,0 +1,35 @@
+-- No record up to the parent of i has that parent, where the records before i stand behind their own. Assumes nothing.
+use mathlib.Core.Path.{_≡_, sym, _∙_, ap}
+use mathlib.Core.Bool.{Bool, true, false}
+use mathlib.Core.List.{List}
+use Prim.Native.Nat.{ℕ, _+_, _^_, _≤_, _<_}
+use native.Mathlib.Omega.{arith}
+use lib.Dec.{eqb}
+use borrow.Author.Tests.{eqb-true, ne-eqb}
+use Rattle.rules.specs.Snapshot.{kind, parent, isRoot}
+use Rattle.rules.specs.Records.{parentFine, clash}
+use Rattle.rules.proofs.Logic.{either}
+use Rattle.snapshot.specs.Parts.{Earlier}
+use Rattle.snapshot.proofs.Parents.{lower}
+use Rattle.snapshot.proofs.Joined.{alone-parent, fine-alone}
+
+root-parent : (s : List ℕ) (i : ℕ) → parentFine s i ≡ true → isRoot (kind s i) ≡ true → parent s i ≡ 0xFFFF
+unfolding parentFine
+root-parent s i p q = eqb-true (parent s i) 0xFFFF (rw q at p)
+
+pub no-elder : (s : List ℕ) (i : ℕ) → i < 2 ^ 16 → parentFine s i ≡ true → isRoot (kind s i) ≡ false → Earlier s i
+    → (j : ℕ) → j < parent s i + 1 → clash s i j ≡ false
+unfolding clash
+no-elder s i fits fine child earlier j below = rw (ne-eqb (parent s i) (parent s j) differ)
+  where
+    above : parent s i < i
+    above = lower s i fine child
+
+    placed : parentFine s j ≡ true
+    placed = alone-parent s j (fine-alone s j (earlier j (omega (arith, above))))
+
+    differ : parent s i ≡ parent s j → ⊥
+    differ e =
+        either (isRoot (kind s j))
+        (λ q. omega (arith, root-parent s j placed q, above))
+        (λ q. omega (arith, lower s j placed q))
