@@ -13,6 +13,7 @@ use tlp::Read;
 use tlp::read_header;
 ghost use mathlib.Core.Path.{_≡_};
 ghost use mathlib.Core.Bool.{true};
+ghost use Prim.Native.Nat.{_≤_};
 ghost use lib.ListN.{length};
 ghost use Rattle.rules.specs.Fabric.{shapeOf, settingOf};
 ghost use Rattle.rules.specs.Route as rule;
@@ -58,7 +59,7 @@ fn walk(s: &[u8], n: u16, t: Tlp, o: u16, buffer: &mut [u8]) -> Went
 }
 
 // Counts first, in a buffer of no bytes, and writes only where all hops have room.
-fn finish(s: &[u8], n: u16, t: Tlp, o: u16, buffer: &mut [u8]) -> Answer
+fn count_first(s: &[u8], n: u16, t: Tlp, o: u16, buffer: &mut [u8]) -> Answer
     requires { ⌜ Sound (now s) n × (refuse.isOrigin (now s) o ≡ true) ⌝ }
     ensures { λ r. ⌜ toldOf r ≡ tells (finished (rule.route (shapeOf (now (s .entry))) (settingOf (now (s .entry))) t o) (length (now (buffer .entry)))) ⌝ }
     ensures { λ _. ⌜ now (buffer .exit) ≡ refuse.written (finished (rule.route (shapeOf (now (s .entry))) (settingOf (now (s .entry))) t o) (length (now (buffer .entry)))) (now (buffer .entry)) ⌝ }
@@ -72,6 +73,30 @@ fn finish(s: &[u8], n: u16, t: Tlp, o: u16, buffer: &mut [u8]) -> Answer
         return Answer::Ended(end, hops as u16);
     }
     Answer::Refused(Refusal::Room, 0)
+}
+
+// No route has more than 257 hops, so that a buffer with room for as many needs no count first.
+fn write_at_once(s: &[u8], n: u16, t: Tlp, o: u16, buffer: &mut [u8]) -> Answer
+    requires { ⌜ Sound (now s) n × ((refuse.isOrigin (now s) o ≡ true) × (1028 ≤ length (now buffer))) ⌝ }
+    ensures { λ r. ⌜ toldOf r ≡ tells (finished (rule.route (shapeOf (now (s .entry))) (settingOf (now (s .entry))) t o) (length (now (buffer .entry)))) ⌝ }
+    ensures { λ _. ⌜ now (buffer .exit) ≡ refuse.written (finished (rule.route (shapeOf (now (s .entry))) (settingOf (now (s .entry))) t o) (length (now (buffer .entry)))) (now (buffer .entry)) ⌝ }
+{
+    let written = walk(s, n, t, o, buffer);
+    let end = written.end;
+    let hops = written.hops;
+    Answer::Ended(end, hops as u16)
+}
+
+// Refusal 7, or the hops.
+fn finish(s: &[u8], n: u16, t: Tlp, o: u16, buffer: &mut [u8]) -> Answer
+    requires { ⌜ Sound (now s) n × (refuse.isOrigin (now s) o ≡ true) ⌝ }
+    ensures { λ r. ⌜ toldOf r ≡ tells (finished (rule.route (shapeOf (now (s .entry))) (settingOf (now (s .entry))) t o) (length (now (buffer .entry)))) ⌝ }
+    ensures { λ _. ⌜ now (buffer .exit) ≡ refuse.written (finished (rule.route (shapeOf (now (s .entry))) (settingOf (now (s .entry))) t o) (length (now (buffer .entry)))) (now (buffer .entry)) ⌝ }
+{
+    if 1028 <= buffer.len() {
+        return write_at_once(s, n, t, o, buffer);
+    }
+    count_first(s, n, t, o, buffer)
 }
 
 // Refusals 5 to 7, of a snapshot that was accepted.
