@@ -70,7 +70,8 @@ fn count_first(s: &[u8], n: u16, t: Tlp, o: u16, buffer: &mut [u8]) -> Answer
     if hops <= buffer.len() / 4 {
         let written = walk(s, n, t, o, buffer);
         let end = written.end;
-        return Answer::Ended(end, hops as u16);
+        let count = hops as u16;
+        return Answer::Ended(end, count);
     }
     Answer::Refused(Refusal::Room, 0)
 }
@@ -81,10 +82,11 @@ fn write_at_once(s: &[u8], n: u16, t: Tlp, o: u16, buffer: &mut [u8]) -> Answer
     ensures { λ r. ⌜ toldOf r ≡ tells (finished (rule.route (shapeOf (now (s .entry))) (settingOf (now (s .entry))) t o) (length (now (buffer .entry)))) ⌝ }
     ensures { λ _. ⌜ now (buffer .exit) ≡ refuse.written (finished (rule.route (shapeOf (now (s .entry))) (settingOf (now (s .entry))) t o) (length (now (buffer .entry)))) (now (buffer .entry)) ⌝ }
 {
-    let written = walk(s, n, t, o, buffer);
-    let end = written.end;
-    let hops = written.hops;
-    Answer::Ended(end, hops as u16)
+    let whole = walk(s, n, t, o, buffer);
+    let end = whole.end;
+    let hops = whole.hops;
+    let count = hops as u16;
+    Answer::Ended(end, count)
 }
 
 // Refusal 7, or the hops.

@@ -3,16 +3,16 @@ use rules::Handling;
 ghost use mathlib.Core.Path.{_≡_};
 ghost use Rattle.rules.specs.Decide.{handling};
 
-// Indexed by the three bits, E first: 4 for E, 2 for R, 1 for the vector bit.
+// Indexed by the three bits E, R and vector bit, which stand behind each entry.
 const TABLE: [Handling; 8] = [
-    Handling::Direct,
-    Handling::Direct,
-    Handling::Redirect,
-    Handling::Redirect,
-    Handling::Direct,
-    Handling::Violation,
-    Handling::Direct,
-    Handling::Redirect,
+    Handling::Direct, // 0 0 0
+    Handling::Direct, // 0 0 1
+    Handling::Redirect, // 0 1 0
+    Handling::Redirect, // 0 1 1
+    Handling::Direct, // 1 0 0
+    Handling::Violation, // 1 0 1
+    Handling::Direct, // 1 1 0
+    Handling::Redirect, // 1 1 1
 ];
 
 // What the table says of a request to a peer.
