@@ -1,5 +1,5 @@
 -- No record up to the parent of i has that parent, where the records before i stand behind their own. Assumes nothing.
-use mathlib.Core.Path.{_≡_, sym, _∙_, ap}
+use mathlib.Core.Path.{_≡_, refl}
 use mathlib.Core.Bool.{Bool, true, false}
 use mathlib.Core.List.{List}
 use Prim.Native.Nat.{ℕ, _+_, _^_, _≤_, _<_}
@@ -17,13 +17,13 @@ root-parent : (s : List ℕ) (i : ℕ) → parentFine s i ≡ true → isRoot (k
 unfolding parentFine
 root-parent s i p q = eqb-true (parent s i) 0xFFFF (rw q at p)
 
-pub no-elder : (s : List ℕ) (i : ℕ) → i < 2 ^ 16 → parentFine s i ≡ true → isRoot (kind s i) ≡ false → Earlier s i
-    → (j : ℕ) → j < parent s i + 1 → clash s i j ≡ false
+pub no-elder : (s : List ℕ) (i : ℕ) {b : Bool} {p : ℕ} → i < 2 ^ 16 → parentFine s i ≡ true → Earlier s i → b ≡ isRoot (kind s i)
+    → b ≡ false → p ≡ parent s i → (j : ℕ) → j < p + 1 → clash s i j ≡ false
 unfolding clash
-no-elder s i fits fine child earlier j below = rw (ne-eqb (parent s i) (parent s j) differ)
+no-elder s i {p} fits fine earlier root not-root is j below = rw (ne-eqb (parent s i) (parent s j) differ)
   where
-    above : parent s i < i
-    above = lower s i fine child
+    above : p < i
+    above = lower s i fine root not-root is
 
     placed : parentFine s j ≡ true
     placed = alone-parent s j (fine-alone s j (earlier j (omega (arith, above))))
@@ -32,4 +32,4 @@ no-elder s i fits fine child earlier j below = rw (ne-eqb (parent s i) (parent s
     differ e =
         either (isRoot (kind s j))
         (λ q. omega (arith, root-parent s j placed q, above))
-        (λ q. omega (arith, lower s j placed q))
+        (λ q. omega (arith, lower s j placed refl q refl))

@@ -8,7 +8,7 @@ use crate::fields::secondary;
 use crate::fields::subordinate;
 use crate::kinds::is_bridge;
 use crate::kinds::is_port;
-use crate::kinds::is_root;
+use crate::places::is_root_port;
 use rules::Bus;
 ghost use mathlib.Core.Path.{_≡_};
 ghost use mathlib.Core.Bool.{true};
@@ -22,7 +22,7 @@ fn bus_above(s: &[u8], i: u16) -> Bus
     requires { ⌜ (168 + 144 * i ≤ length (now s)) × (parentFine (now s) i ≡ true) ⌝ }
     ensures { λ r. ⌜ r .0 ≡ ofParent (now (s .entry)) i 0 snapshot.secondary ⌝ }
 {
-    if is_root(kind(s, i)) {
+    if is_root_port(s, i) {
         return Bus(0);
     }
     secondary(s, parent(s, i))
@@ -33,7 +33,7 @@ fn highest_bus(s: &[u8], i: u16) -> Bus
     requires { ⌜ (168 + 144 * i ≤ length (now s)) × (parentFine (now s) i ≡ true) ⌝ }
     ensures { λ r. ⌜ r .0 ≡ ofParent (now (s .entry)) i 255 snapshot.subordinate ⌝ }
 {
-    if is_root(kind(s, i)) {
+    if is_root_port(s, i) {
         return Bus(255);
     }
     subordinate(s, parent(s, i))

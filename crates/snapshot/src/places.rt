@@ -13,6 +13,8 @@ use crate::kinds::is_upstream;
 ghost use mathlib.Core.Path.{_≡_};
 ghost use Prim.Native.Nat.{_+_, _*_, _≤_};
 ghost use lib.ListN.{length};
+ghost use Rattle.rules.specs.Snapshot as snapshot;
+ghost use Rattle.rules.specs.Snapshot.{isRoot};
 ghost use Rattle.rules.specs.Records.{kindFine, standsUnder, parentFine, blankFine};
 
 pub fn kind_fine(s: &[u8], i: u16) -> bool
@@ -33,13 +35,21 @@ fn stands_under(kind: u8, above: u8) -> bool
     }
 }
 
+// A root port, which alone has no parent.
+pub fn is_root_port(s: &[u8], i: u16) -> bool
+    requires { ⌜ 168 + 144 * i ≤ length (now s) ⌝ }
+    ensures { λ r. ⌜ r ≡ isRoot (snapshot.kind (now (s .entry)) i) ⌝ }
+{
+    is_root(kind(s, i))
+}
+
 // The parent's kind is read only where the parent is an earlier record.
 pub fn parent_fine(s: &[u8], i: u16) -> bool
     requires { ⌜ 168 + 144 * i ≤ length (now s) ⌝ }
     ensures { λ r. ⌜ r ≡ parentFine (now (s .entry)) i ⌝ }
 {
     let above = parent(s, i);
-    if is_root(kind(s, i)) {
+    if is_root_port(s, i) {
         return above == 0xFFFF;
     }
     if above < i {

@@ -6,7 +6,7 @@ use crate::fields::kind;
 use crate::fields::last;
 use crate::fields::parent;
 use crate::kinds::is_bridge;
-use crate::kinds::is_root;
+use crate::places::is_root_port;
 ghost use mathlib.Core.Path.{_≡_};
 ghost use mathlib.Core.Bool.{true};
 ghost use Prim.Native.Nat.{_+_, _*_, _≤_, _<_};
@@ -146,7 +146,7 @@ pub fn nested_fine(s: &[u8], i: u16) -> bool
     requires { ⌜ (168 + 144 * i ≤ length (now s)) × (parentFine (now s) i ≡ true) ⌝ }
     ensures { λ r. ⌜ r ≡ nestedFine (now (s .entry)) i ⌝ }
 {
-    if is_root(kind(s, i)) {
+    if is_root_port(s, i) {
         return true;
     }
     ranges_nested(s, i, parent(s, i))

@@ -4,8 +4,8 @@ use crate::buses::numbers_meet;
 use crate::fields::kind;
 use crate::fields::parent;
 use crate::kinds::is_endpoint;
-use crate::kinds::is_root;
 use crate::kinds::is_upstream;
+use crate::places::is_root_port;
 use crate::ranges::ranges_meet;
 ghost use mathlib.Core.Path.{_≡_};
 ghost use mathlib.Core.Bool.{true, false, _||_};
@@ -46,7 +46,7 @@ fn eldest(s: &[u8], i: u16) -> u16
     requires { ⌜ (168 + 144 * i ≤ length (now s)) × (parentFine (now s) i ≡ true) × Earlier (now s) i ⌝ }
     ensures { λ r. ⌜ (r ≤ i) × ((j : ℕ) → j < r → clash (now (s .entry)) i j ≡ false) ⌝ }
 {
-    if is_root(kind(s, i)) {
+    if is_root_port(s, i) {
         return 0;
     }
     parent(s, i) + 1

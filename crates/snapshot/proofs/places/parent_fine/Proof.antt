@@ -1,7 +1,6 @@
 -- `snapshot::places::parent_fine` meets its contract: a root port, a record with an earlier parent, and the rest. Assumes nothing.
+use mathlib.Core.Path.{sym, _∙_}
 use borrow.Author.Tests.{lt-ltb, le-ltb}
-use Rattle.rules.specs.Snapshot.{isRoot}
-use Rattle.snapshot.proofs.Tested.{tested}
 use Rattle.rules.specs.Records.{parentFine}
 use borrow.Author.Needs.{needs}
 use Rattle.snapshot.proofs.places.parent_fine.Statement.{statement}
@@ -9,9 +8,14 @@ use Rattle.snapshot.proofs.places.parent_fine.Tie as tie
 
 pub parent-fine-spec : {M : Type 1} → statement M
 unfolding parentFine
-parent-fine-spec = tie.close (tie.spec
-    (λ c κs. search needs) (λ c κs. search needs) (λ c κs. search needs)
-    (λ c. rw (tested isRoot (c .before .is-root .ensures) (c .before .before .kind .ensures) (c .if1 .taken)) cc) (λ c κs. search needs)
-    (λ c κs. search needs) (λ c κs. search needs)
-    (λ c. rw (tested isRoot (c .before .before .before .before .before .is-root .ensures) (c .before .before .before .before .before .before .kind .ensures) (c .before .before .before .before .if1 .left), ← c .before .before .before .before .before .before .before .parent .ensures, lt-ltb _ _ (c .before .before .before .if2 .taken)) cc)
-    (λ c. rw (tested isRoot (c .before .before .is-root .ensures) (c .before .before .before .kind .ensures) (c .before .if1 .left), ← c .before .before .before .before .parent .ensures, le-ltb _ _ (c .if2 .left))))
+parent-fine-spec =
+    tie.close
+    (tie.spec
+    (λ c κs. search needs)
+    (λ c κs. search needs)
+    (λ c. rw (sym (c .before .is-root-port .ensures) ∙ c .if1 .taken) cc)
+    (λ c κs. search needs)
+    (λ c κs. search needs)
+    (λ c κs. search needs)
+    (λ c. rw (sym (c .before .before .before .before .before .is-root-port .ensures) ∙ c .before .before .before .before .if1 .left, ← c .before .before .before .before .before .before .parent .ensures, lt-ltb _ _ (c .before .before .before .if2 .taken)) cc)
+    (λ c. rw (sym (c .before .before .is-root-port .ensures) ∙ c .before .if1 .left, ← c .before .before .before .parent .ensures, le-ltb _ _ (c .if2 .left))))
