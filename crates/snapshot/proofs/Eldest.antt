@@ -1,13 +1,13 @@
 -- No record up to the parent of i has that parent, where the records before i stand behind their own. Assumes nothing.
-use mathlib.Core.Path.{_≡_, refl}
-use mathlib.Core.Bool.{Bool, true, false}
+use mathlib.Core.Path.{_≡_, refl, sym}
+use mathlib.Core.Bool.{Bool, true, false, and-true}
 use mathlib.Core.List.{List}
 use Prim.Native.Nat.{ℕ, _+_, _^_, _≤_, _<_}
 use native.Mathlib.Omega.{arith}
 use lib.Dec.{eqb}
 use borrow.Author.Tests.{eqb-true, ne-eqb}
 use Rattle.rules.specs.Snapshot.{kind, parent, isRoot}
-use Rattle.rules.specs.Records.{parentFine, clash}
+use Rattle.rules.specs.Records.{parentFine, standsAlone, clash}
 use Rattle.rules.proofs.Logic.{either}
 use Rattle.snapshot.specs.Parts.{Earlier}
 use Rattle.snapshot.proofs.Parents.{lower}
@@ -33,3 +33,8 @@ no-elder s i {p} fits fine earlier root not-root is j below = rw (ne-eqb (parent
         either (isRoot (kind s j))
         (λ q. omega (arith, root-parent s j placed q, above))
         (λ q. omega (arith, lower s j placed refl q refl))
+
+-- what must stand alone clashes with a record exactly if it has its parent
+pub alone-clash : (s : List ℕ) (i j : ℕ) {a b : ℕ} → standsAlone (kind s i) ≡ true → a ≡ parent s i → b ≡ parent s j → eqb a b ≡ clash s i j
+unfolding clash
+alone-clash s i j alone ha hb = rw (ha, hb, alone) (sym (and-true (eqb (parent s i) (parent s j))))

@@ -8,10 +8,10 @@ use lib.Dec.{ltb}
 use borrow.Author.Tests.{le-ltb}
 use Rattle.rules.specs.Below.{anyBelow, allBelow}
 use Rattle.rules.specs.Snapshot.{kind, first, last, closed, isOpen, isBridge}
-use Rattle.rules.specs.Records.{rangeFine, rangesFine, overlap, rangesMeet}
+use Rattle.rules.specs.Records.{rangeFine, rangesFine, overlap, rangesMeet, inside}
 use Rattle.rules.proofs.Logic.{clash, either, or-case, and-right-false}
 use Rattle.rules.proofs.Loops.{any-cut, any-same, all-at}
-use Rattle.snapshot.specs.Parts.{windowsMeet}
+use Rattle.snapshot.specs.Parts.{windowsMeet, rangeNested}
 use Rattle.snapshot.proofs.Ends.{closed-none}
 
 module _ (s : List ℕ) (i : ℕ) (fine : rangesFine s i ≡ true) (bridge : isBridge (kind s i) ≡ true) where
@@ -33,3 +33,12 @@ windows-meet s i j fi fj bi bj =
   where
     other : (k m : ℕ) → closed (first s j m) (last s j m) ≡ true → overlap s i k j m ≡ false
     other k m e = rw e (and-right-false (isOpen s i k) false refl)
+
+-- range k of i, open and closed, held against the two windows of p
+module _ (s : List ℕ) (i p k : ℕ) {o : Bool} (is : o ≡ isOpen s i k) where
+  pub nested-open : {x y : Bool} → o ≡ true → x ≡ inside s i k p 0 → y ≡ inside s i k p 1 → (x || y) ≡ rangeNested s i p k
+  unfolding anyBelow
+  nested-open on hx hy = rw (sym is ∙ on, hx, hy)
+
+  pub nested-closed : o ≡ false → true ≡ rangeNested s i p k
+  nested-closed off = rw (sym is ∙ off)

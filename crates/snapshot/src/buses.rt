@@ -63,14 +63,17 @@ pub fn buses_fine(s: &[u8], i: u16) -> bool
     own_bus_fine(s, i) & bus_order_fine(s, i)
 }
 
+// Most pairs are told apart by one comparison.
 pub fn buses_meet(s: &[u8], i: u16, j: u16) -> bool
     requires { ⌜ (168 + 144 * i ≤ length (now s)) × (168 + 144 * j ≤ length (now s)) ⌝ }
     ensures { λ r. ⌜ r ≡ busesMeet (now (s .entry)) i j ⌝ }
 {
-    is_bridge(kind(s, i))
-        & is_bridge(kind(s, j))
-        & (secondary(s, i).0 <= subordinate(s, j).0)
-        & (secondary(s, j).0 <= subordinate(s, i).0)
+    if secondary(s, i).0 <= subordinate(s, j).0 {
+        if secondary(s, j).0 <= subordinate(s, i).0 {
+            return is_bridge(kind(s, i)) & is_bridge(kind(s, j));
+        }
+    }
+    false
 }
 
 pub fn numbers_meet(s: &[u8], i: u16, j: u16) -> bool

@@ -176,14 +176,15 @@ pub fn in_range(s: &[u8], i: u16, a: u64, k: u16) -> bool
     (first(s, i, k) <= a) & (a <= last(s, i, k))
 }
 
-// The address is in an open range.
+// The address is in an open range; most often it is in the first.
 pub fn holds(s: &[u8], i: u16, a: u64) -> bool
     requires { ⌜ 168 + 144 * i ≤ length (now s) ⌝ }
     ensures { λ r. ⌜ r ≡ fabric.holds (now (s .entry)) i a ⌝ }
 {
-    let mut found = false;
     for k in 0..6 {
-        found = found | in_range(s, i, a, k);
+        if in_range(s, i, a, k) {
+            return true;
+        }
     }
-    found
+    false
 }

@@ -52,13 +52,17 @@ pub fn ranges_fine(s: &[u8], i: u16) -> bool
     ok
 }
 
+// Most pairs are told apart by one comparison.
 pub fn overlap(s: &[u8], i: u16, k: u16, j: u16, m: u16) -> bool
     requires { ⌜ (168 + 144 * i ≤ length (now s)) × (k < 6) × (168 + 144 * j ≤ length (now s)) × (m < 6) ⌝ }
     ensures { λ r. ⌜ r ≡ overlap (now (s .entry)) i k j m ⌝ }
 {
-    is_open(s, i, k)
-        & (is_open(s, j, m)
-            & ((first(s, i, k) <= last(s, j, m)) & (first(s, j, m) <= last(s, i, k))))
+    if first(s, i, k) <= last(s, j, m) {
+        if first(s, j, m) <= last(s, i, k) {
+            return is_open(s, i, k) & is_open(s, j, m);
+        }
+    }
+    false
 }
 
 // Range k of i overlaps one of the first n of j: a closed range is done at once.
@@ -128,7 +132,10 @@ fn range_nested(s: &[u8], i: u16, p: u16, k: u16) -> bool
     requires { ⌜ (168 + 144 * i ≤ length (now s)) × (k < 6) × (168 + 144 * p ≤ length (now s)) ⌝ }
     ensures { λ r. ⌜ r ≡ rangeNested (now (s .entry)) i p k ⌝ }
 {
-    !is_open(s, i, k) | (inside(s, i, k, p, 0) | inside(s, i, k, p, 1))
+    if is_open(s, i, k) {
+        return inside(s, i, k, p, 0) | inside(s, i, k, p, 1);
+    }
+    true
 }
 
 fn ranges_nested(s: &[u8], i: u16, p: u16) -> bool

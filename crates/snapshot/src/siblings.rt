@@ -52,13 +52,37 @@ fn eldest(s: &[u8], i: u16) -> u16
     parent(s, i) + 1
 }
 
+// Some record from `from` on has i's parent; where i must stand alone that is all there is to it.
+fn has_elder(s: &[u8], i: u16, from: u16) -> bool
+    requires { ⌜ (168 + 144 * i ≤ length (now s)) × (standsAlone (snapshot.kind (now s) i) ≡ true) × (from ≤ i) × ((j : ℕ) → j < from → clash (now s) i j ≡ false) ⌝ }
+    ensures { λ r. ⌜ r ≡ clashes (now (s .entry)) i ⌝ }
+{
+    let above = parent(s, i);
+    let mut found = false;
+    for j in from..i {
+        found = found | (above == parent(s, j));
+    }
+    found
+}
+
+fn any_clash(s: &[u8], i: u16, from: u16) -> bool
+    requires { ⌜ (168 + 144 * i ≤ length (now s)) × (fineAlone (now s) i ≡ true) × Earlier (now s) i × (from ≤ i) × ((j : ℕ) → j < from → clash (now s) i j ≡ false) ⌝ }
+    ensures { λ r. ⌜ r ≡ clashes (now (s .entry)) i ⌝ }
+{
+    let mut found = false;
+    for j in from..i {
+        found = found | clash(s, i, j);
+    }
+    found
+}
+
 pub fn clashes(s: &[u8], i: u16) -> bool
     requires { ⌜ (168 + 144 * i ≤ length (now s)) × (fineAlone (now s) i ≡ true) × Earlier (now s) i ⌝ }
     ensures { λ r. ⌜ r ≡ clashes (now (s .entry)) i ⌝ }
 {
-    let mut found = false;
-    for j in eldest(s, i)..i {
-        found = found | clash(s, i, j);
+    let from = eldest(s, i);
+    if stands_alone(kind(s, i)) {
+        return has_elder(s, i, from);
     }
-    found
+    any_clash(s, i, from)
 }

@@ -1,26 +1,13 @@
--- `snapshot::siblings::clashes` meets its contract: no record before the eldest sibling clashes, and the loop's turns are those of
--- anyBelow. Assumes nothing.
-use Prim.Native.Nat.{_≤_, _-_}
-use mathlib.Core.Path.{_≡_, sym}
+-- `snapshot::siblings::clashes` meets its contract: no record before the eldest sibling clashes. Assumes nothing.
+use Rattle.snapshot.proofs.Tested.{tested}
+use Rattle.snapshot.proofs.Joined.{alone-parent}
+use Rattle.rules.specs.Records.{standsAlone}
 use borrow.Author.Needs.{needs}
-use Rattle.rules.specs.Below.{anyBelow}
-use Rattle.rules.specs.Records.{clash, clashes}
-use Rattle.rules.proofs.Loops.{any-miss, any-turn, any-end}
-use Rattle.snapshot.proofs.Joined.{alone-parent, alone-ranges, fine-alone}
 use Rattle.snapshot.proofs.siblings.clashes.Statement.{statement}
 use Rattle.snapshot.proofs.siblings.clashes.Tie as tie
 
 pub clashes-spec : {M : Type 1} → statement M
-unfolding clashes
-clashes-spec =
-    tie.close
-    (tie.spec
-    (λ s i found₀ j₀ found j. (j ≤ i) × (found ≡ anyBelow j (clash s i)))
-    (λ s i found₀ j₀ found j. i - j)
-    (λ c κs. (search needs, alone-parent _ _ (c .before .pre .1), c .before .pre .2))
-    (λ c. (search needs, sym (any-miss _ _ (c .eldest .ensures .1))))
-    (λ c κs. (search needs, search needs, alone-ranges _ _ (c .before .before .before .before .pre .1), alone-ranges _ _ (fine-alone _ _ (c .before .before .before .before .pre .2 _ (c .loop-test .taken)))))
-    (λ c. search needs)
-    (λ c. search needs)
-    (λ c. (search needs, any-turn _ _ (c .before .before .loop .inv .1) (c .clash .ensures)))
-    (λ c. any-end _ _ _ (c .before .loop .inv .1) (search needs) (search needs)))
+clashes-spec = tie.close (tie.spec
+    (λ c κs. (search needs, alone-parent _ _ (c .before .pre .1), c .before .pre .2)) (λ c κs. search needs) (λ c κs. search needs)
+    (λ c κs. (search needs, tested standsAlone (c .before .stands-alone .ensures) (c .before .before .kind .ensures) (c .if1 .taken), c .before .before .before .eldest .ensures .0, c .before .before .before .eldest .ensures .1))
+    (λ c. search needs) (λ c κs. search needs) (λ c. search needs))
