@@ -45,6 +45,13 @@ pub fn in_time(s: &[u8], time: u64) -> bool
     (taken(s) <= time) & (time <= good_until(s))
 }
 
+// Only a faulty record has an index of its own.
+fn refused(why: Refusal) -> Check
+    ensures { λ r. ⌜ r ≡ Check.Refused why 0 ⌝ }
+{
+    Check::Refused(why, 0)
+}
+
 // The answer by what the search for a faulty record gives.
 fn refused_if(faulty: Found) -> Check
     ensures { λ r. ⌜ r ≡ refusedIf faulty ⌝ }
@@ -59,16 +66,16 @@ pub fn check(s: &[u8], time: u64) -> Check
     ensures { λ r. ⌜ checkedAs r ≡ refuse.checked (now (s .entry)) time ⌝ }
 {
     if !begun(s) {
-        return Check::Refused(Refusal::Malformed, 0);
+        return refused(Refusal::Malformed);
     }
     if !known_version(s) {
-        return Check::Refused(Refusal::Version, 0);
+        return refused(Refusal::Version);
     }
     if !well_made(s) {
-        return Check::Refused(Refusal::Malformed, 0);
+        return refused(Refusal::Malformed);
     }
     if !in_time(s, time) {
-        return Check::Refused(Refusal::Time, 0);
+        return refused(Refusal::Time);
     }
     refused_if(lowest_faulty(s, count(s)))
 }
