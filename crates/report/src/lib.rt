@@ -1,0 +1,4 @@
+// The text that `acsroute` prints, byte for byte.
+mod frame;
+mod lines;
+mod put;
