@@ -5,7 +5,7 @@ use Prim.Native.Nat.{ℕ, suc, _+_, _≤_, _<_}
 use native.Mathlib.Numerals.{add-one}
 use native.Mathlib.Omega.{arith}
 use lib.ListN.{length, take, drop, set, getD, length-append, take-append-drop}
-use lib.Seq.{set-split, take-suc, take-all}
+use lib.Seq.{set-split, take-suc, take-all, length-take-le}
 use Rattle.route.specs.Laid.{laid}
 use Rattle.route.proofs.Laid.{length-laid, take-laid, drop-laid}
 use Rattle.report.specs.Put.{Put}
@@ -39,8 +39,8 @@ pub tight : {m n : ℕ} {b : List ℕ} {at : ℕ} {x : List ℕ} {next : ℕ} {a
 tight l p = record { kept = p .kept; short = l; moves = p .moves; bytes = p .bytes }
 
 pub loose : {m n : ℕ} {b : List ℕ} {at : ℕ} {x : List ℕ} {next : ℕ} {after : List ℕ}
-    → m ≤ n → Put m b at x next after → Put n b at x next after
-loose l p = let s = p .short in record { kept = p .kept; short = omega arith; moves = p .moves; bytes = p .bytes }
+    → Put m b at x next after → m ≤ n → Put n b at x next after
+loose p l = let s = p .short in record { kept = p .kept; short = omega arith; moves = p .moves; bytes = p .bytes }
 
 -- the same text by another name
 pub named : {m : ℕ} {b : List ℕ} {at : ℕ} {x y : List ℕ} {next : ℕ} {after : List ℕ}
@@ -83,12 +83,18 @@ module _ {m : ℕ} {b : List ℕ} {x : List ℕ} {next : ℕ} {after : List ℕ}
   room : 0 + length x ≤ length b
   room = let s = p .short in omega arith
 
-  pub whole-moves : next ≡ length x
-  whole-moves = p .moves room ∙ omega arith
+  moved : next ≡ length x
+  moved = p .moves room ∙ omega arith
 
-  pub whole-bytes : after ≡ x ++ drop (length x) b
+  within : next ≤ length after
+  within = let e = moved in let k = p .kept in let s = p .short in omega arith
+
+  laid-whole : after ≡ x ++ drop (length x) b
   unfolding laid
-  whole-bytes = let e : 0 + length x ≡ length x = omega arith in p .bytes room ∙ ap (λ (n : ℕ). x ++ drop n b) e
+  laid-whole = let e : 0 + length x ≡ length x = omega arith in p .bytes room ∙ ap (λ (n : ℕ). x ++ drop n b) e
+
+  pub whole-text : (next ≡ length x) × ((after ≡ x ++ drop (length x) b) × ((next ≤ length after) × (next ≡ length (take next after))))
+  whole-text = (moved, (laid-whole, (within, sym (length-take-le next after within))))
 
 pub word-end : {b : List ℕ} {at : ℕ} (w : List ℕ) (i : ℕ) {next : ℕ} {after : List ℕ} → length w ≤ i → i ≤ length w
     → Put i b at (take i w) next after → Put (length w) b at w next after

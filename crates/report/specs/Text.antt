@@ -14,9 +14,9 @@ use Rattle.rules.specs.Refuse.{Result, refused, answered}
 use Rattle.report.specs.Framing.{whole, snapshotOf, answerTo}
 
 -- the words, in ASCII; those that stand inside a line have the space before them
--- `input\n`
+-- `input`
 abbrev pub theInput : List ℕ
-theInput = 105 ∷ 110 ∷ 112 ∷ 117 ∷ 116 ∷ 10 ∷ []
+theInput = 105 ∷ 110 ∷ 112 ∷ 117 ∷ 116 ∷ []
 
 -- `refusal `
 abbrev pub theRefusal : List ℕ
@@ -83,7 +83,7 @@ decimal (suc fuel) n = cond (ltb n 10) ((48 + n) ∷ []) (decimal fuel (n / 10) 
 unfoldable pub number : ℕ → List ℕ
 number n = decimal (suc n) n
 
--- a violation's letter, with the space before it: V, B, E, X
+-- a violation's letter: V, B, E, X
 abbrev pub letterOf : Letter → ℕ
 letterOf Source = 86
 letterOf Translation = 66
@@ -105,7 +105,7 @@ endText (Delivered i checked) = delivered ++ (number i ++ checkedText checked)
 endText Host = host ++ number complex
 endText (Unclaimed i) = unclaimed ++ number i
 endText (Undefined i) = undefined ++ number i
-endText (Violated letter i aborts) = violation ++ (number i ++ (space ∷ letterOf letter ∷ abortText aborts))
+endText (Violated letter i aborts) = violation ++ (number i ++ ((space ∷ []) ++ ((letterOf letter ∷ []) ++ abortText aborts)))
 
 -- a hop as index:action
 unfoldable pub hopText : Hop → List ℕ
@@ -116,17 +116,22 @@ hopsText [] = []
 hopsText (h ∷ l) = hopText h ++ hopsText l
 
 -- mark, version, record count
-unfoldable pub headLine : List ℕ → List ℕ
-headLine s = theMark ++ (number (version s) ++ (theRecords ++ (number (count s) ++ (newline ∷ []))))
+unfoldable pub headText : List ℕ → List ℕ
+headText s = theMark ++ (number (version s) ++ (theRecords ++ number (count s)))
 
-unfoldable pub refusalLine : ℕ → ℕ → List ℕ
-refusalLine why i = theRefusal ++ (number why ++ ((space ∷ []) ++ (number i ++ (newline ∷ []))))
+-- a refusal's number and index
+unfoldable pub refusalText : ℕ → ℕ → List ℕ
+refusalText why i = theRefusal ++ (number why ++ ((space ∷ []) ++ number i))
 
--- the lines for an answer of snapshot s
+-- one line for a refusal, two for an answer of snapshot s
 unfoldable pub answerText : List ℕ → Result Trip → List ℕ
-answerText s (refused why i) = refusalLine why i
-answerText s (answered r) = headLine s ++ (endText (r .end) ++ (hopsText (r .hops) ++ (newline ∷ [])))
+answerText s (refused why i) = refusalText why i
+answerText s (answered r) = headText s ++ ((newline ∷ []) ++ (endText (r .end) ++ hopsText (r .hops)))
 
 -- Input shorter or longer than its lengths say prints only `input`.
+unfoldable pub said : List ℕ → List ℕ
+said b = cond (whole b) (answerText (snapshotOf b) (answerTo b)) theInput
+
+-- every line ends in a newline, the last one too
 unfoldable pub printed : List ℕ → List ℕ
-printed b = cond (whole b) (answerText (snapshotOf b) (answerTo b)) theInput
+printed b = said b ++ (newline ∷ [])

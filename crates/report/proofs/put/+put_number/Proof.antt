@@ -1,3 +1,5 @@
+-- The proof of the cycle of calls {put_number}: digit by digit. The measure is the number. Assumes nothing.
+use Rattle.report.proofs.Digits.{number-one, number-more-put}
 use native.Mathlib.Omega.{arith}
 use borrow.Author.Needs.{needs}
 use Prim.Native.Nat.{ℕ, _<_}
@@ -55,7 +57,7 @@ put-number-returns : (t : ℕ) → put-number-lts.Need-returns (
   put-number-below t,
   put-number.Post,
 ) (put-number-at t) put-number.Post
-put-number-returns t c = ?
+put-number-returns t c = number-one _ (c .before .before .if1 .taken) (omega arith) (c .put-byte .ensures)
 
 -- src/put.rt:37:9
 put-number-put-number-requires : (t : ℕ) → put-number-lts.Need-put-number-requires (
@@ -100,7 +102,7 @@ put-number-returns-2 : (t : ℕ) → put-number-lts.Need-returns-2 (
   put-number-below t,
   put-number.Post,
 ) (put-number-at t) put-number.Post
-put-number-returns-2 t c = ?
+put-number-returns-2 t c = number-more-put _ (c .before .before .before .before .if1 .left) (omega arith) (c .before .before .put-number .ensures) (c .put-byte2 .ensures)
 
 pub +put-number-spec : {M : Type 1} → statement M
 +put-number-spec = close μ-put-number λ t. put-number-lts.spec (
