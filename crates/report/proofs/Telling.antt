@@ -94,10 +94,10 @@ is-trip (answered r) end count e =
     }
 
 -- a route has a whole header, and few hops
-pub trip-fits : (s : List ℕ) (time origin : ℕ) (h : List ℕ) (room : ℕ) {end : Outcome} {count : ℕ} {a : Answer}
+pub trip-fits : (s : List ℕ) (time origin : ℕ) (h : List ℕ) (room : ℕ) {end : Outcome} {count : ℕ} (a : Answer)
     → toldOf a ≡ tells (result s time origin h room) → a ≡ Ended end count → (8 ≤ length s) × (count ≤ 257)
 unfolding begun
-trip-fits s time origin h room {end} {count} {a} told e =
+trip-fits s time origin h room {end} {count} a told e =
     let t : IsTrip (result s time origin h room) end count = is-trip (result s time origin h room) end count (sym (ap toldOf e) ∙ told) in
     let f : length (t .trip .hops) ≤ 257 = never-above-257 s time origin h room (t .trip) (t .is) in
     let c = t .counts in
@@ -107,12 +107,19 @@ trip-fits s time origin h room {end} {count} {a} told e =
 
 -- the texts
 
+trip-of : (s : List ℕ) (r : Trip) (hops zeros : List ℕ) → hops ≡ written (answered r) zeros
+    → headText s ++ ((newline ∷ []) ++ (endText (r .end) ++ hopsIn hops (length (r .hops)))) ≡ answerText s (answered r)
+unfolding answerText
+trip-of s r hops zeros w = rw (w, hops-told (r .hops) (drop (4 * length (r .hops)) zeros))
+
 trip-text : (s : List ℕ) (x : Result Trip) (end : Outcome) (count : ℕ) (hops zeros : List ℕ) → toldOf (Ended end count) ≡ tells x
     → hops ≡ written x zeros → headText s ++ ((newline ∷ []) ++ (endText end ++ hopsIn hops count)) ≡ answerText s x
-unfolding answerText
 trip-text s x end count hops zeros e w =
     let t : IsTrip x end count = is-trip x end count e in
-    rw (w, t .is, t .ends, t .counts, hops-told (t .trip .hops) (drop (4 * length (t .trip .hops)) zeros))
+    ap (λ (o : Outcome). headText s ++ ((newline ∷ []) ++ (endText o ++ hopsIn hops count))) (t .ends)
+    ∙ ap (λ (k : ℕ). headText s ++ ((newline ∷ []) ++ (endText (t .trip .end) ++ hopsIn hops k))) (t .counts)
+    ∙ trip-of s (t .trip) hops zeros (w ∙ ap (λ (y : Result Trip). written y zeros) (t .is))
+    ∙ sym (ap (answerText s) (t .is))
 
 refused-text : (s : List ℕ) (x : Result Trip) (why : Refusal) (i : ℕ) → toldOf (Refused why i) ≡ tells x
     → refusalText (numberOf why) i ≡ answerText s x
@@ -136,7 +143,7 @@ module _ (b : List ℕ) (n : ℕ) (long : length b ≡ headerStart b + headerLen
       let e : n + 2 + 11 ≡ headerStart b = omega arith in
       take-all (length b - (n + 2 + 11)) (drop (n + 2 + 11) b) (simp length-drop (omega arith)) ∙ ap (λ (k : ℕ). drop k b) e
 
-  module _ {time origin : ℕ} (ht : time ≡ le 8 b (n + 2)) (ho : origin ≡ le 2 b (n + 2 + 8)) {zeros : List ℕ} (hz : length zeros ≡ 1028) where
+  module _ {time origin : ℕ} (ht : time ≡ le 8 b (n + 2)) (ho : origin ≡ le 2 b (n + 2 + 8)) (zeros : List ℕ) (hz : length zeros ≡ 1028) where
     same-time : time ≡ nowOf b
     same-time = let e : n + 2 ≡ 2 + snapshotLength b = omega arith in ht ∙ ap (le 8 b) e
 
@@ -151,7 +158,7 @@ module _ (b : List ℕ) (n : ℕ) (long : length b ≡ headerStart b + headerLen
         ∙ ap (λ (o : ℕ). result (snapshotOf b) (nowOf b) o (headerOf b) (length zeros)) same-origin
         ∙ ap (λ (room : ℕ). result (snapshotOf b) (nowOf b) (originOf b) (headerOf b) room) hz
 
-    module _ {a : Answer}
+    module _ (a : Answer)
         (told : toldOf a ≡ tells (result (take (n + 2 - 2) (drop 2 b)) time origin (take (length b - (n + 2 + 11)) (drop (n + 2 + 11) b)) (length zeros))) where
       told-answer : toldOf a ≡ tells (answerTo b)
       told-answer = told ∙ ap tells same-answer
