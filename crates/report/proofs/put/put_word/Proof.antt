@@ -14,28 +14,8 @@ Inv-loop out₀ at word next₀ i₀ i-end out next i = (i ≤ length word) × P
 abbrev μ-loop : tie.MeasureT-loop
 μ-loop out₀ at word next₀ i₀ i-end out next i = length word - i
 
-loop-holds : tie.Need-loop-holds Inv-loop μ-loop
-loop-holds c = (omega arith, put-none _ _)
-
-shared-slice-read-put-byte : tie.Need-shared-slice-read-put-byte Inv-loop μ-loop
-shared-slice-read-put-byte c = search needs
-
-put-byte-requires : tie.Need-put-byte-requires Inv-loop μ-loop
-put-byte-requires c κs = search needs
-
-add-i : tie.Need-add-i Inv-loop μ-loop
-add-i c = search needs
-
-loop-less : tie.Need-loop-less Inv-loop μ-loop
-loop-less c = search needs
-
-loop-again : tie.Need-loop-again Inv-loop μ-loop
-loop-again c = (omega arith, word-turn _ _ (omega arith) (c .before .before .before .before .loop .inv .1) (c .put-byte .ensures))
-
-returns : tie.Need-returns Inv-loop μ-loop
-returns c = word-end _ _ (omega arith) (omega arith) (c .before .loop .inv .1)
-
 pub put-word-spec : {M : Type 1} → statement M
-put-word-spec =
-    tie.close
-    (tie.spec Inv-loop μ-loop loop-holds shared-slice-read-put-byte put-byte-requires add-i loop-less loop-again returns)
+put-word-spec = tie.close (tie.spec
+    Inv-loop μ-loop (λ c. (omega arith, put-none _ _)) (λ c. search needs) (λ c κs. search needs) (λ c. search needs) (λ c. search needs)
+    (λ c. (omega arith, word-turn _ _ (omega arith) (c .before .before .before .before .loop .inv .1) (c .put-byte .ensures)))
+    (λ c. word-end _ _ (omega arith) (omega arith) (c .before .loop .inv .1)))
