@@ -1,0 +1,3 @@
+pub mod Framing
+pub mod Text
+pub mod Put
