@@ -1,6 +1,7 @@
 // The C interface: check and route on numbers and byte slices, each answer one word.
 use route::answer::Answer;
 use route::answer::route;
+use route::hops::COMPLEX;
 use rules::Letter;
 use rules::Outcome;
 use snapshot::answers::Check;
@@ -13,8 +14,6 @@ ghost use lib.ListN.{length};
 ghost use Rattle.rules.specs.Word.{letterNumber, tellsEnd, wordOf, told};
 ghost use Rattle.snapshot.specs.Numbers.{numberOf};
 ghost use Rattle.acs.specs.Promise.{answerWord, checkedWord, Checked, Routed};
-
-const COMPLEX: u16 = 0xFFFF;
 
 fn one_if(b: bool) -> u8
     ensures { λ r. ⌜ r ≡ cond b 1 0 ⌝ }

@@ -1,4 +1,5 @@
 // The whole answer: refusals 1 to 7 in their order, the walk that counts and the walk that writes.
+use crate::hops::COMPLEX;
 use crate::up::Went;
 use crate::up::climb;
 use crate::up::from_top;
@@ -23,8 +24,6 @@ ghost use Rattle.route.specs.Held.{Held, Sound};
 ghost use Rattle.route.specs.Laid.{puts};
 ghost use Rattle.route.specs.Told.{wentFrom, toldOf};
 ghost use Rattle.route.specs.Parts.{asked, finished};
-
-const COMPLEX: u16 = 0xFFFF;
 
 // What a query comes to: a refusal with its index, or an outcome with its hop count.
 pub enum Answer {

@@ -1,6 +1,11 @@
 // Going up: what port p does with a TLP that enters it. Steps 1 to 6 of document 01, in their order.
 use crate::cover::covers;
 use crate::cover::peer_of;
+use crate::hops::AS_ADDRESSED;
+use crate::hops::COMPLEX;
+use crate::hops::DIRECT_TO_PEER;
+use crate::hops::REDIRECTED_UP;
+use crate::hops::UP_BY_U;
 use crate::table::look_up;
 use rules::Found;
 use rules::Handling;
@@ -19,16 +24,6 @@ ghost use Rattle.rules.specs.Fabric.{shapeOf, settingOf};
 ghost use Rattle.rules.specs.Decide as rule;
 ghost use Rattle.route.specs.Held.{Stands};
 ghost use Rattle.route.specs.Parts.{goesTranslated, byTable, elsewhere};
-
-const COMPLEX: u16 = 0xFFFF;
-
-const AS_ADDRESSED: u8 = 1;
-
-const REDIRECTED_UP: u8 = 2;
-
-const UP_BY_U: u8 = 3;
-
-const DIRECT_TO_PEER: u8 = 4;
 
 // Validation in the root complex blocks the TLP; it never blocks a completion.
 fn blocks(s: &[u8], t: Tlp) -> bool

@@ -2,6 +2,8 @@
 use crate::cover::child_for;
 use crate::cover::covers;
 use crate::cover::way_on;
+use crate::hops::DOWNWARD;
+use crate::hops::ENDS_HERE;
 use crate::hops::put_hop;
 use rules::Down;
 use rules::Found;
@@ -17,10 +19,6 @@ ghost use Rattle.route.specs.Held.{Held};
 ghost use Rattle.route.specs.Parts.{throughSwitch};
 ghost use Rattle.route.specs.Laid.{puts};
 ghost use Rattle.route.specs.Told.{sunkFrom};
-
-const DOWNWARD: u8 = 6;
-
-const ENDS_HERE: u8 = 7;
 
 // Where a way down came to, and the number of the hop that would follow.
 pub struct Sunk {

@@ -3,6 +3,6 @@ pub mod answer;
 mod cover;
 mod decide;
 mod down;
-mod hops;
+pub mod hops;
 mod table;
 mod up;

@@ -3,6 +3,10 @@ use crate::cover::entry_for;
 use crate::decide::decide;
 use crate::down::Sunk;
 use crate::down::sink;
+use crate::hops::COMPLEX;
+use crate::hops::DIRECT_TO_PEER;
+use crate::hops::ENDS_HERE;
+use crate::hops::REFLECTED;
 use crate::hops::put_hop;
 use rules::Found;
 use rules::Landing;
@@ -19,14 +23,6 @@ ghost use Rattle.rules.specs.Route as rule;
 ghost use Rattle.route.specs.Held.{Held, Starts};
 ghost use Rattle.route.specs.Laid.{puts};
 ghost use Rattle.route.specs.Told.{wentFrom, arrivedFrom};
-
-const COMPLEX: u16 = 0xFFFF;
-
-const DIRECT_TO_PEER: u8 = 4;
-
-const REFLECTED: u8 = 5;
-
-const ENDS_HERE: u8 = 7;
 
 // What a TLP came to, and the number of the hop that would follow.
 pub struct Went {
