@@ -1,5 +1,5 @@
 -- The answer words, case by case. Assumes nothing.
-use mathlib.Core.Path.{_≡_, sym, _∙_, ap}
+use mathlib.Core.Path.{_≡_, _∙_, ap}
 use mathlib.Core.Bool.{Bool, cond}
 use mathlib.Core.List.{List}
 use Prim.Native.Nat.{ℕ}
@@ -9,7 +9,7 @@ use Rattle.rules.specs.declared.Outcome.{Outcome}
 use Rattle.rules.specs.declared.Outcome.the-variants.{Delivered, Host, Unclaimed, Undefined, Violated}
 use Rattle.rules.specs.Decide.{complex}
 use Rattle.rules.specs.Refuse.{checked, result, written}
-use Rattle.rules.specs.Word.{letterNumber, told, tells, tellsEnd, tellsRefusal, wordOf, checkWord}
+use Rattle.rules.specs.Word.{letterNumber, told, tells, tellsEnd, wordOf, checkWord}
 use Rattle.snapshot.specs.declared.answers.Refusal.{Refusal}
 use Rattle.snapshot.specs.declared.answers.Check.{Check}
 use Rattle.snapshot.specs.declared.answers.Check.the-variants.{Refused as CheckRefused}

@@ -1,5 +1,5 @@
 -- F1 to F12 come out as document 01 says, each by computation. Assumes nothing.
-use mathlib.Core.Path.{_≡_, refl}
+use mathlib.Core.Path.{refl}
 use Rattle.rules.specs.Below.{allBelow, anyBelow, findFrom}
 use Rattle.rules.specs.Bytes.{be}
 use Rattle.rules.specs.Records.{kindFine, parentFine, blankFine, busesFine, busesMeet, numbersMeet, sized, spanFine, rangeFine, rangesFine, overlap, ownOverlap, rangesMeet, inside, nestedFine, acsFine, clash, clashes, fine, faulty, lowestFaulty}

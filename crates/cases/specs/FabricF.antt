@@ -1,9 +1,9 @@
 -- Fabric F, and the cases F1 to F12 as one table. A case is what is put in and what must come out of the whole answer: the
 -- refusals, the record rules and the route.
 use mathlib.Core.Path.{_≡_}
-use mathlib.Core.Bool.{Bool, true, false}
+use mathlib.Core.Bool.{true, false}
 use mathlib.Core.List.{List, [], _∷_, _++_}
-use Prim.Native.Nat.{ℕ, zero, suc, _+_, _*_, _/_, _%_}
+use Prim.Native.Nat.{ℕ, zero, suc, _*_, _/_, _%_}
 use lib.ListN.{replicate}
 use Rattle.rules.specs.declared.Letter.the-variants.{Source, Translation, Egress, Validation}
 use Rattle.rules.specs.declared.Outcome.{Outcome}

@@ -1,6 +1,6 @@
 -- A number put digit by digit. Assumes nothing.
-use mathlib.Core.Path.{_≡_, sym}
-use mathlib.Core.List.{List, [], _∷_, _++_}
+use mathlib.Core.Path.{sym}
+use mathlib.Core.List.{List, [], _∷_}
 use Prim.Native.Nat.{ℕ, _+_, _/_, _%_, _≤_, _<_}
 use Rattle.report.specs.Text.{number}
 use Rattle.report.specs.Put.{Put}

@@ -1,8 +1,8 @@
 -- What the router's answer tells is the text of the result that it stands for. Assumes nothing.
-use mathlib.Core.Path.{_≡_, refl, sym, _∙_, ap, subst}
-use mathlib.Core.Bool.{Bool, true, false, cond}
+use mathlib.Core.Path.{_≡_, refl, sym, _∙_, ap}
+use mathlib.Core.Bool.{true, false, cond}
 use mathlib.Core.List.{List, [], _∷_, _++_}
-use Prim.Native.Nat.{ℕ, _+_, _-_, _*_, _≤_, _<_}
+use Prim.Native.Nat.{ℕ, _+_, _-_, _*_, _≤_}
 use native.Mathlib.Omega.{arith}
 use lib.Dec.{eqb, leb}
 use lib.ListN.{length, take, drop, length-drop}
@@ -14,11 +14,11 @@ use Rattle.rules.specs.declared.Outcome.{Outcome}
 use Rattle.rules.specs.declared.Outcome.the-variants.{Delivered, Host, Unclaimed, Undefined, Violated}
 use Rattle.rules.specs.Bytes.{le}
 use Rattle.rules.specs.Snapshot.{marked}
-use Rattle.rules.specs.Route.{Trip, hopBytes}
+use Rattle.rules.specs.Route.{Trip}
 use Rattle.rules.specs.Refuse.{Result, refused, answered, begun, result, written}
 use Rattle.rules.specs.Word.{Told, tells, tellsEnd}
 use Rattle.rules.proofs.Logic.{both}
-use Rattle.rules.proofs.Accepted.{Accepted, result-accepted}
+use Rattle.rules.proofs.Accepted.{result-accepted}
 use Rattle.rules.proofs.Theorems.{never-above-257}
 use Rattle.snapshot.specs.declared.answers.Refusal.{Refusal}
 use Rattle.snapshot.specs.Numbers.{numberOf}
@@ -26,7 +26,7 @@ use Rattle.route.specs.declared.answer.Answer.{Answer}
 use Rattle.route.specs.declared.answer.Answer.the-variants.{Refused, Ended}
 use Rattle.route.specs.Told.{toldOf}
 use Rattle.report.specs.Framing.{whole, snapshotLength, headerStart, headerLength, snapshotOf, nowOf, originOf, headerOf, answerTo}
-use Rattle.report.specs.Text.{newline, headText, endText, hopsText, refusalText, answerText, said, theInput}
+use Rattle.report.specs.Text.{newline, headText, endText, refusalText, answerText, said, theInput}
 use Rattle.report.specs.Put.{Put, hopsIn}
 use Rattle.report.proofs.Putting.{named, loose}
 use Rattle.report.proofs.Hopping.{hops-told}

@@ -1,26 +1,21 @@
 -- The whole answer, from what the tests and the walks of the code say. Assumes nothing.
 use mathlib.Core.Path.{_≡_, refl, sym, _∙_, ap, subst}
-use mathlib.Core.Bool.{Bool, true, false, cond, _&&_, _||_}
-use mathlib.Core.List.{List, [], _∷_, _++_}
+use mathlib.Core.Bool.{Bool, true, false, cond}
+use mathlib.Core.List.{List}
 use Prim.Native.Nat.{ℕ, _+_, _*_, _/_, _≤_, _<_}
 use native.Mathlib.Omega.{arith}
-use lib.Dec.{eqb, leb, ltb}
-use lib.ListN.{length, take, drop}
+use lib.ListN.{length}
 use borrow.Author.Tests.{eq-eqb, ne-eqb, eqb-true, lt-ltb, le-ltb, le-leb, lt-leb, leb-true}
-use Rattle.rules.specs.declared.Outcome.{Outcome}
 use Rattle.rules.specs.declared.Tlp.{Tlp}
-use Rattle.rules.specs.declared.Found.the-variants.{Nothing}
-use Rattle.rules.specs.Snapshot.{count, kind, parent, isEndpoint, isPort}
-use Rattle.rules.specs.Records.{lowestFaulty}
+use Rattle.rules.specs.Snapshot.{count, kind, parent, isEndpoint}
 use Rattle.rules.specs.Fabric.{shapeOf, settingOf}
 use Rattle.rules.specs.Tlp.{headerFine, tlpOf}
 use Rattle.rules.specs.Decide.{complex}
-use Rattle.rules.specs.Demand.{IsEndpoint, WellFormed}
+use Rattle.rules.specs.Demand.{IsEndpoint}
 use Rattle.rules.specs.Bound.{ports, depth}
-use Rattle.rules.specs.Route.{Hop, hopBytes, Trip, fromTop, up, start, route}
+use Rattle.rules.specs.Route.{Trip, fromTop, up, start, route}
 use Rattle.rules.specs.Refuse.{Result, refused, answered, through, readGates, fits, isOrigin, routed, result, written}
 use Rattle.rules.specs.Word.{Told, tells, tellsEnd, tellsRefusal}
-use Rattle.rules.proofs.Logic.{clash, either}
 use Rattle.rules.proofs.Sound.{no-fault-well-formed}
 use Rattle.rules.proofs.Hops.{ports-depth, depth-most, top-hops, up-hops}
 use Rattle.rules.proofs.Entered.{Entered, endpoint-entered, origin-case}
@@ -28,11 +23,10 @@ use Rattle.tlp.specs.declared.Read.{Read}
 use Rattle.tlp.specs.declared.Read.the-variants.{Good, Bad}
 use Rattle.tlp.specs.Header.{headerRead}
 use Rattle.snapshot.proofs.Accepted.{Facts}
-use Rattle.route.specs.declared.answer.Answer.{Answer}
 use Rattle.route.specs.declared.up.Went.{Went}
 use Rattle.route.specs.Held.{Held, Sound, Starts}
 use Rattle.route.specs.Parts.{finished, asked}
-use Rattle.route.specs.Told.{wentFrom, toldOf}
+use Rattle.route.specs.Told.{wentFrom}
 use Rattle.route.specs.Laid.{puts}
 use Rattle.route.proofs.Laid.{puts-room}
 use Rattle.route.proofs.Sinking.{counted, uncounted}

@@ -1,6 +1,6 @@
 -- Covering, from what the readers and the branches of the code say. Assumes nothing.
-use mathlib.Core.Path.{_≡_, refl, sym, _∙_, ap, ap₂}
-use mathlib.Core.Bool.{Bool, true, false, cond, _&&_, not, and-false}
+use mathlib.Core.Path.{_≡_, refl, sym, _∙_, ap}
+use mathlib.Core.Bool.{Bool, true, false, _&&_, not}
 use mathlib.Core.List.{List}
 use Prim.Native.Nat.{ℕ, _<_}
 use lib.Dec.{eqb, leb}
@@ -14,10 +14,9 @@ use Rattle.rules.specs.declared.Bus.{Bus}
 use Rattle.rules.specs.declared.Target.{Target}
 use Rattle.rules.specs.declared.Target.the-variants.{Address, Id}
 use Rattle.rules.specs.declared.Tlp.{Tlp}
-use Rattle.rules.specs.Bytes.{within}
 use Rattle.rules.specs.Snapshot.{kind, parent, ownBus, place, secondary, subordinate, isRoot, isEndpoint, isPort}
 use Rattle.rules.specs.Fabric.{shapeOf, holds}
-use Rattle.rules.specs.Cover.{coversTarget, covers, isPeer, isEntry, peerOf, isChild, isWayOn}
+use Rattle.rules.specs.Cover.{coversTarget, covers, isPeer, isEntry, peerOf, isWayOn}
 
 module _ (s : List ℕ) where
   pub at-endpoint : (bus : Bus) (pl i : ℕ) {k o p : ℕ} {e : Bool} → k ≡ kind s i → e ≡ isEndpoint k → e ≡ true → o ≡ ownBus s i → p ≡ place s i

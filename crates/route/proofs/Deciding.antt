@@ -1,14 +1,14 @@
 -- The steps of going up, from what the readers and the branches of the code say. Assumes nothing.
-use mathlib.Core.Path.{_≡_, refl, sym, _∙_, ap}
-use mathlib.Core.Bool.{Bool, true, false, cond, _&&_, not}
+use mathlib.Core.Path.{_≡_, sym, _∙_, ap}
+use mathlib.Core.Bool.{Bool, true, false, _&&_, not}
 use mathlib.Core.List.{List}
 use Prim.Native.Nat.{ℕ}
 use lib.Dec.{eqb, leb}
 use Rattle.rules.specs.declared.Found.{Found}
 use Rattle.rules.specs.declared.Found.the-variants.{At, Nothing}
 use Rattle.rules.specs.declared.Handling.{Handling}
-use Rattle.rules.specs.declared.Handling.the-variants.{Direct, Redirect, Violation}
-use Rattle.rules.specs.declared.Letter.the-variants.{Source, Translation, Egress, Validation}
+use Rattle.rules.specs.declared.Handling.the-variants.{Direct, Redirect}
+use Rattle.rules.specs.declared.Letter.the-variants.{Source, Translation, Validation}
 use Rattle.rules.specs.declared.Outcome.the-variants.{Host, Unclaimed, Undefined}
 use Rattle.rules.specs.declared.Move.{Move}
 use Rattle.rules.specs.declared.Move.the-variants.{Up, Across, Reflect, Stop, Beyond}
@@ -17,7 +17,7 @@ use Rattle.rules.specs.Bytes.{bit}
 use Rattle.rules.specs.Snapshot.{kind, parent, secondary, subordinate, control, portNumber, vectorBit, isRoot, rootsReach, validationReflects, bitV, bitB, bitR, bitC, bitU, bitE, bitT}
 use Rattle.rules.specs.Fabric.{shapeOf, settingOf}
 use Rattle.rules.specs.Cover.{covers, peerOf}
-use Rattle.rules.specs.Decide.{complex, asAddressed, redirectedUp, upByU, directToPeer, violation, blocks, atTheTop, sentUp, badSource, badTranslation, ownRange, handling, turnsBack, peerHandling, direct, handled, toPeer, pastParent, onward, decide}
+use Rattle.rules.specs.Decide.{complex, asAddressed, upByU, directToPeer, violation, blocks, atTheTop, sentUp, badSource, badTranslation, ownRange, handling, turnsBack, peerHandling, direct, handled, toPeer, pastParent, onward, decide}
 use Rattle.route.specs.Parts.{goesTranslated, byTable, elsewhere}
 
 module _ (s : List ℕ) where

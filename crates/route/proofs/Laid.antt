@@ -1,18 +1,15 @@
 -- Hops laid into a buffer: four stores in a part are one hop, and hops one after the other are their bytes. Assumes nothing.
-use mathlib.Core.Path.{_≡_, refl, sym, _∙_, ap, subst}
-use mathlib.Core.Bool.{Bool, true, false, cond}
+use mathlib.Core.Path.{_≡_, refl, sym, _∙_, ap}
 use mathlib.Core.List.{List, [], _∷_, _++_, append-assoc, append-nil}
 use Prim.Native.Nat.{ℕ, suc, _+_, _-_, _*_, _/_, _≤_, _<_}
-use native.Mathlib.Nat.{add-assoc}
-use native.Mathlib.Numerals.{add-one}
 use native.Mathlib.Omega.{arith}
 use lib.Dec.{ltb}
-use lib.ListN.{length, take, drop, set, getD, length-append, length-take, length-drop, take-append-drop, drop-of-length-le}
-use lib.Seq.{take-all, drop-cons, drop-drop, take-at, drop-at, length-take-le}
+use lib.ListN.{length, take, drop, set, length-append, length-drop, take-append-drop, drop-of-length-le}
+use lib.Seq.{take-all, drop-drop, take-at, drop-at, length-take-le}
 use borrow.Author.Tests.{lt-ltb, le-ltb, ltb-true}
 use borrow.Rule.Slice.PartMut.{putMid}
 use Rattle.rules.proofs.Logic.{either}
-use Rattle.rules.specs.Route.{Hop, hop, hopBytes}
+use Rattle.rules.specs.Route.{Hop, hopBytes}
 use Rattle.route.specs.Laid.{laid, putAt, puts}
 
 -- four stores at the start of a list that has room for them

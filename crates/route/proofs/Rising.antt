@@ -1,12 +1,11 @@
 -- The way up and the reflection at the top, from what the branches of the code say. Assumes nothing.
-use mathlib.Core.Path.{_≡_, refl, sym, _∙_, ap, subst}
+use mathlib.Core.Path.{_≡_, sym, _∙_, ap, subst}
 use mathlib.Core.Bool.{Bool, true, false}
 use mathlib.Core.List.{List, [], _∷_}
-use Prim.Native.Nat.{ℕ, suc, _+_, _<_}
+use Prim.Native.Nat.{ℕ, _+_, _<_}
 use native.Mathlib.Nat.{add-suc, suc-add}
 use native.Mathlib.Numerals.{add-one}
 use native.Mathlib.Omega.{arith}
-use lib.ListN.{length}
 use Rattle.rules.specs.declared.Found.{Found}
 use Rattle.rules.specs.declared.Found.the-variants.{At, Nothing}
 use Rattle.rules.specs.declared.Outcome.{Outcome}
@@ -14,16 +13,15 @@ use Rattle.rules.specs.declared.Outcome.the-variants.{Unclaimed}
 use Rattle.rules.specs.declared.Move.{Move}
 use Rattle.rules.specs.declared.Move.the-variants.{Up, Across, Reflect, Stop, Beyond}
 use Rattle.rules.specs.declared.Tlp.{Tlp}
-use Rattle.rules.specs.Snapshot.{kind, parent, isRoot, isPort}
+use Rattle.rules.specs.Snapshot.{kind, parent, isPort}
 use Rattle.rules.specs.Fabric.{shapeOf, settingOf}
 use Rattle.rules.specs.Cover.{entryFor}
 use Rattle.rules.specs.Decide.{complex, directToPeer, reflected, endsHere, decide}
-use Rattle.rules.specs.Demand.{WellFormed}
-use Rattle.rules.specs.Route.{hop, Trip, Way, arrived, down, fromTop, above, hopUp, up}
+use Rattle.rules.specs.Route.{hop, Trip, arrived, down, fromTop, above, hopUp, up}
 use Rattle.rules.proofs.Steps.{entry-in, Ascends, Rises, decide-rises, up-step}
 use Rattle.route.specs.declared.down.Sunk.{Sunk}
 use Rattle.route.specs.declared.up.Went.{Went}
-use Rattle.route.specs.Held.{Held, Stands, Sound, Starts}
+use Rattle.route.specs.Held.{Held, Stands, Starts}
 use Rattle.route.specs.Told.{sunkFrom, wentFrom, arrivedFrom}
 use Rattle.route.specs.Laid.{putAt, puts}
 use Rattle.route.proofs.Sinking.{counted, uncounted}

@@ -1,12 +1,11 @@
 -- The way down, from what the readers and the branches of the code say. Assumes nothing.
-use mathlib.Core.Path.{_≡_, refl, sym, _∙_, ap, subst}
-use mathlib.Core.Bool.{Bool, true, false, cond, not}
-use mathlib.Core.List.{List, [], _∷_}
-use Prim.Native.Nat.{ℕ, suc, _+_, _<_}
+use mathlib.Core.Path.{_≡_, sym, _∙_, ap, subst}
+use mathlib.Core.Bool.{Bool, true, false}
+use mathlib.Core.List.{List}
+use Prim.Native.Nat.{ℕ, _+_, _<_}
 use native.Mathlib.Nat.{add-suc, suc-add}
 use native.Mathlib.Numerals.{add-one}
 use native.Mathlib.Omega.{arith}
-use lib.ListN.{length}
 use Rattle.rules.specs.declared.Found.{Found}
 use Rattle.rules.specs.declared.Found.the-variants.{At, Nothing}
 use Rattle.rules.specs.declared.Landing.{Landing}
@@ -15,10 +14,10 @@ use Rattle.rules.specs.declared.Down.{Down}
 use Rattle.rules.specs.declared.Down.the-variants.{Into, Below, Alone}
 use Rattle.rules.specs.declared.Tlp.{Tlp}
 use Rattle.rules.specs.Snapshot.{kind, isEndpoint}
-use Rattle.rules.specs.Fabric.{Shape, shapeOf}
+use Rattle.rules.specs.Fabric.{shapeOf}
 use Rattle.rules.specs.Cover.{covers, childFor, wayOn}
 use Rattle.rules.specs.Decide.{downward, endsHere}
-use Rattle.rules.specs.Route.{hop, landsAt, Way, throughChild, nextDown, hopDown, down}
+use Rattle.rules.specs.Route.{hop, landsAt, throughChild, nextDown, hopDown, down}
 use Rattle.rules.proofs.Steps.{Sinks, next-sinks, down-step, found-after}
 use Rattle.route.specs.declared.down.Sunk.{Sunk}
 use Rattle.route.specs.Held.{Held}

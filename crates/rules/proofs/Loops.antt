@@ -1,15 +1,14 @@
 -- The laws of anyBelow, allBelow and findFrom. Three of each are the steps of a loop: at its start, after a turn, at its end.
 -- Assumes nothing.
-use mathlib.Core.Path.{_≡_, refl, sym, _∙_, ap, ap₂, subst}
-use mathlib.Core.Bool.{Bool, true, false, cond, _&&_, _||_, not}
+use mathlib.Core.Path.{_≡_, refl, sym, _∙_, ap, subst}
+use mathlib.Core.Bool.{Bool, true, false, _&&_, _||_}
 use Prim.Native.Nat.{ℕ, zero, suc, _+_, _-_, _≤_, _<_}
 use native.Mathlib.Nat.{le-antisymm, not-suc-le-zero}
 use native.Mathlib.Numerals.{add-one}
 use native.Mathlib.Omega.{arith}
-use Rattle.rules.specs.declared.Found.{Found}
 use Rattle.rules.specs.declared.Found.the-variants.{At, Nothing}
 use Rattle.rules.specs.Below.{allBelow, anyBelow, findFrom}
-use Rattle.rules.proofs.Logic.{clash, both, and-both, either, or-case, or-left, or-right, same-test}
+use Rattle.rules.proofs.Logic.{clash, both, either, or-case, or-left, or-right, same-test}
 
 -- anyBelow
 

@@ -16,7 +16,7 @@ use Rattle.rules.specs.Tlp.{isRequest, tlpOf}
 use Rattle.rules.specs.declared.Tlp.{Tlp}
 use Rattle.rules.specs.Cover.{covers}
 use Rattle.rules.specs.Decide.{complex}
-use Rattle.rules.specs.Route.{Trip, above, up, route}
+use Rattle.rules.specs.Route.{Trip, above, up}
 use Rattle.rules.specs.Refuse.{refused, answered, through, fits, checked, routed, result}
 use Rattle.rules.specs.Demand.{AreBytes, OneWay, IsPort, IsEndpoint, EveryU, Locked, wasSentUp, Answerable}
 use Rattle.rules.specs.Tight.{Alike, AtLeastAsTight}

@@ -12,7 +12,7 @@ use Rattle.rules.specs.declared.Tlp.{Tlp}
 use Rattle.rules.specs.Below.{anyBelow}
 use Rattle.rules.specs.Bytes.{within}
 use Rattle.rules.specs.Snapshot.{count, kind, parent, secondary, subordinate, first, last, isRoot, isUpstream, isDownstream, isEndpoint, isPort, isBridge}
-use Rattle.rules.specs.Records.{siblings, standsAlone, busesMeet, numbersMeet, overlap, rangesMeet, clash as meet, clashes, fine}
+use Rattle.rules.specs.Records.{standsAlone, busesMeet, numbersMeet, overlap, rangesMeet, clash as meet, clashes, fine}
 use Rattle.rules.specs.Fabric.{inRange, holds, shapeOf}
 use Rattle.rules.specs.Cover.{coversTarget, covers, isChild}
 use Rattle.rules.specs.Demand.{WellFormed, OneWay}

@@ -1,6 +1,6 @@
 -- Covering, and who is found by it.
 use mathlib.Core.Bool.{Bool, cond, _&&_, not}
-use Prim.Native.Nat.{ℕ, suc, _-_, _+_}
+use Prim.Native.Nat.{ℕ, _-_, _+_}
 use lib.Dec.{eqb}
 use Rattle.rules.specs.declared.Found.{Found}
 use Rattle.rules.specs.declared.Target.{Target}

@@ -1,12 +1,11 @@
 -- Going up: what port p does with a TLP that enters it. Steps 1 to 6, in their order.
-use mathlib.Core.Bool.{Bool, true, false, cond, _&&_, _||_, not}
+use mathlib.Core.Bool.{Bool, true, false, cond, _&&_, not}
 use Prim.Native.Nat.{ℕ}
 use lib.Dec.{eqb}
 use Rattle.rules.specs.declared.Handling.{Handling}
 use Rattle.rules.specs.declared.Handling.the-variants.{Direct, Redirect, Violation}
 use Rattle.rules.specs.declared.Letter.{Letter}
 use Rattle.rules.specs.declared.Letter.the-variants.{Source, Translation, Egress, Validation}
-use Rattle.rules.specs.declared.Outcome.{Outcome}
 use Rattle.rules.specs.declared.Outcome.the-variants.{Host, Unclaimed, Undefined, Violated}
 use Rattle.rules.specs.declared.Move.{Move}
 use Rattle.rules.specs.declared.Move.the-variants.{Up, Across, Reflect, Stop, Beyond}

@@ -1,9 +1,9 @@
 -- What routing asks of an accepted snapshot, in two halves: the shape, which no setting of the control registers changes, and
 -- the setting. Two snapshots that are alike but for Control registers and Egress Control Vectors have one shape.
-use mathlib.Core.Bool.{Bool, _&&_, _||_}
+use mathlib.Core.Bool.{Bool, _&&_}
 use mathlib.Core.List.{List}
 use Prim.Native.Nat.{ℕ}
-use lib.Dec.{eqb, leb}
+use lib.Dec.{leb}
 use Rattle.rules.specs.declared.Tlp.{Tlp}
 use Rattle.rules.specs.Below.{anyBelow}
 use Rattle.rules.specs.Bytes.{bit}

@@ -1,8 +1,8 @@
 -- When a record is faulty: the rules of document 01, a definition to each, in its order. Record i is held against itself and
 -- earlier records; nothing past record i is read, the header's count neither.
-use mathlib.Core.Bool.{Bool, true, false, cond, _&&_, _||_, not}
+use mathlib.Core.Bool.{Bool, true, cond, _&&_, _||_, not}
 use mathlib.Core.List.{List, [], _∷_}
-use Prim.Native.Nat.{ℕ, _+_, _-_, _*_, _^_, _/_, _%_}
+use Prim.Native.Nat.{ℕ, _+_, _-_, _^_, _%_}
 use lib.Dec.{eqb, leb, ltb}
 use Rattle.rules.specs.declared.Found.{Found}
 use Rattle.rules.specs.Below.{allOf, allBelow, anyBelow, findFrom}

@@ -1,5 +1,5 @@
 -- The refusal table in its exact order, the whole answer, and the last bytes of the buffer.
-use mathlib.Core.Bool.{Bool, true, false, cond, _&&_, _||_}
+use mathlib.Core.Bool.{Bool, true, false, _&&_, _||_}
 use mathlib.Core.List.{List, [], _∷_, _++_}
 use Prim.Native.Nat.{ℕ, _+_, _*_}
 use lib.Dec.{eqb, leb, ltb}
@@ -12,7 +12,7 @@ use Rattle.rules.specs.Records.{lowestFaulty}
 use Rattle.rules.specs.Fabric.{shapeOf, settingOf}
 use Rattle.rules.specs.Tlp.{headerFine, tlpOf}
 use Rattle.rules.specs.Decide.{complex}
-use Rattle.rules.specs.Route.{Hop, hopBytes, Trip, route}
+use Rattle.rules.specs.Route.{hopBytes, Trip, route}
 
 -- A test that lets an input pass, or refuses it with a number and an index.
 pub data Gate : Type 0 where

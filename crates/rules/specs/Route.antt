@@ -1,6 +1,6 @@
 -- Going down, going up from port to port, and the hops.
 use mathlib.Core.Bool.{Bool, true, false, cond, not}
-use mathlib.Core.List.{List, [], _∷_, _++_}
+use mathlib.Core.List.{List, [], _∷_}
 use Prim.Native.Nat.{ℕ, zero, suc, _/_, _%_}
 use lib.Dec.{eqb}
 use Rattle.rules.specs.declared.Outcome.{Outcome}

@@ -2,7 +2,7 @@
 use mathlib.Core.Bool.{Bool, _&&_, _||_, not}
 use mathlib.Core.List.{List}
 use Prim.Native.Nat.{ℕ, _+_, _*_, _/_, _%_}
-use lib.Dec.{eqb, leb, ltb}
+use lib.Dec.{eqb, ltb}
 use Rattle.rules.specs.Bytes.{byte, le, bit, within}
 
 -- bytes 0-2: the mark `ACS`

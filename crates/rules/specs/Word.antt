@@ -1,5 +1,5 @@
 -- The answer as numbers: the eight bytes of the answer word, and the paper's value of each for every case.
-use mathlib.Core.Bool.{Bool, true, false, cond}
+use mathlib.Core.Bool.{cond}
 use Prim.Native.Nat.{ℕ, _+_, _*_, _^_}
 use lib.ListN.{length}
 use Rattle.rules.specs.declared.Letter.{Letter}

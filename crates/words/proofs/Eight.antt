@@ -1,5 +1,5 @@
 -- Eight bytes in one sum are the number that they write. Assumes nothing.
-use mathlib.Core.Path.{_≡_, _∙_}
+use mathlib.Core.Path.{_≡_}
 use mathlib.Core.List.{List}
 use Prim.Native.Nat.{ℕ, _+_}
 use native.Mathlib.Nat.{add-assoc}

@@ -1,6 +1,6 @@
 -- `report::lines::put_refusal` meets its contract: the word, number and index. Assumes nothing.
 use mathlib.Core.Path.{ap}
-use mathlib.Core.List.{List, _++_}
+use mathlib.Core.List.{_++_}
 use Prim.Native.Nat.{ℕ}
 use Rattle.report.proofs.Putting.{then, named}
 use Rattle.report.specs.Text.{number, theRefusal, refusalText}
