@@ -1,15 +1,14 @@
 -- Of a bridge whose ranges are right, no range but the two windows is open. Assumes nothing.
 use mathlib.Core.Path.{_≡_, refl, sym, _∙_}
-use mathlib.Core.Bool.{Bool, true, false, _&&_, _||_}
+use mathlib.Core.Bool.{true, false}
 use mathlib.Core.List.{List}
 use Prim.Native.Nat.{ℕ, _≤_, _<_}
 use native.Mathlib.Omega.{arith}
-use lib.Dec.{ltb}
 use borrow.Author.Tests.{le-ltb}
-use Rattle.rules.specs.Below.{anyBelow, allBelow}
+use Rattle.rules.specs.Below.{anyBelow}
 use Rattle.rules.specs.Snapshot.{kind, first, last, closed, isOpen, isBridge}
 use Rattle.rules.specs.Records.{rangeFine, rangesFine, overlap, rangesMeet}
-use Rattle.rules.proofs.Logic.{clash, either, or-case, and-right-false}
+use Rattle.rules.proofs.Logic.{clash, either, and-right-false}
 use Rattle.rules.proofs.Loops.{any-cut, any-same, all-at}
 use Rattle.snapshot.specs.Parts.{windowsMeet}
 use Rattle.snapshot.proofs.Ends.{closed-none}
