@@ -7,7 +7,6 @@ use native.Mathlib.Omega.{arith}
 use lib.ListN.{length}
 use borrow.Author.Tests.{eq-eqb, ne-eqb, eqb-true}
 use Rattle.rules.specs.Bytes.{byte, le}
-use Rattle.rules.proofs.Logic.{either, clash}
 use Rattle.report.specs.declared.frame.Frame.{Frame}
 use Rattle.report.specs.declared.frame.Frame.the-variants.{Whole, Broken}
 use Rattle.report.specs.Framing.{whole, framed, snapshotLength, snapshotEnd, headerStart, headerLength}

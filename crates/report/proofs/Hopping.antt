@@ -1,16 +1,16 @@
 -- The hops of a hop buffer as text, one after the other; and a buffer that starts with the bytes of hops gives their text. Assumes nothing.
 use mathlib.Core.Path.{_≡_, refl, sym, _∙_, ap}
 use mathlib.Core.List.{List, [], _∷_, _++_, append-assoc, append-nil}
-use Prim.Native.Nat.{ℕ, zero, suc, _+_, _*_, _/_, _%_, _≤_, _<_}
+use Prim.Native.Nat.{ℕ, zero, suc, _+_, _*_, _/_, _%_, _≤_}
 use native.Mathlib.Numerals.{add-one}
 use native.Mathlib.Omega.{arith}
-use lib.ListN.{length, getD}
+use lib.ListN.{length}
 use lib.Seq.{getD-append-add}
 use Rattle.rules.specs.Bytes.{byte, le}
 use Rattle.rules.specs.Route.{Hop, hop, hopBytes}
 use Rattle.report.specs.Text.{hopText, hopsText}
 use Rattle.report.specs.Put.{Put, hopsIn}
-use Rattle.report.proofs.Putting.{put-none, tight, loose, named, then}
+use Rattle.report.proofs.Putting.{put-none, loose, named, then}
 
 -- the loop
 

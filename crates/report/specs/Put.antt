@@ -1,6 +1,6 @@
 -- Text put into a buffer.
 use mathlib.Core.Path.{_≡_}
-use mathlib.Core.List.{List, [], _∷_, _++_}
+use mathlib.Core.List.{List, [], _++_}
 use Prim.Native.Nat.{ℕ, zero, suc, _+_, _*_, _≤_}
 use lib.ListN.{length}
 use Rattle.rules.specs.Bytes.{byte, le}

@@ -1,5 +1,4 @@
 // Bytes, words and numbers put into the text.
-ghost use mathlib.Core.Path.{_≡_};
 ghost use mathlib.Core.List.{[], _∷_};
 ghost use lib.ListN.{length};
 ghost use Rattle.report.specs.Text.{number};

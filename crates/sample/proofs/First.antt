@@ -1,14 +1,13 @@
 -- F1 prints exactly document 01's two lines. Assumes nothing.
-use mathlib.Core.Path.{_≡_, refl, sym, _∙_, ap}
+use mathlib.Core.Path.{_≡_, refl, _∙_, ap}
 use mathlib.Core.Bool.{true}
-use mathlib.Core.List.{List, [], _∷_, _++_}
+use mathlib.Core.List.{List, _++_}
 use Prim.Native.Nat.{ℕ}
-use Rattle.rules.specs.Route.{Trip}
-use Rattle.rules.specs.Refuse.{Result, answered, result}
+use Rattle.rules.specs.Refuse.{answered, result}
 use Rattle.cases.specs.FabricF.{bytes, ranges, port, node, fabricF, set, request, plain, directly, table}
 use Rattle.cases.proofs.Cases.{F1-to-F12}
 use Rattle.report.specs.Framing.{whole, snapshotOf, nowOf, originOf, headerOf, answerTo}
-use Rattle.report.specs.Text.{decimal, number, endText, hopText, hopsText, headText, answerText, said, printed}
+use Rattle.report.specs.Text.{newline, decimal, number, endText, hopText, hopsText, headText, answerText, said, printed}
 use Rattle.sample.specs.First.{inputF1, linesF1}
 
 framed : whole inputF1 ≡ true
@@ -43,7 +42,7 @@ answer-is =
     ∙ ap (λ (o : ℕ). result (set 0x00 0) 0 o plain 1028) origin-is
     ∙ routed
 
-text-is : answerText (set 0x00 0) (answered directly) ++ 10 ∷ [] ≡ linesF1
+text-is : answerText (set 0x00 0) (answered directly) ++ newline ≡ linesF1
 unfolding answerText headText endText hopsText hopText number decimal directly linesF1 bytes ranges port node fabricF
 text-is = refl
 

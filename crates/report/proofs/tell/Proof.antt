@@ -1,5 +1,4 @@
 -- `report::tell` meets its contract: a refusal, or a route with its hops. Assumes nothing.
-use native.Mathlib.Omega.{arith}
 use Prim.Native.Nat.{ℕ}
 use lib.ListN.{replicate, length-replicate}
 use Rattle.report.proofs.Telling.{trip-fits, tell-trip, tell-refused}

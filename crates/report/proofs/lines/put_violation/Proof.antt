@@ -2,7 +2,7 @@
 use Rattle.report.specs.Text.{endText}
 use native.Mathlib.Omega.{arith}
 use mathlib.Core.Path.{ap}
-use mathlib.Core.List.{List, [], _∷_}
+use mathlib.Core.List.{[], _∷_}
 use Prim.Native.Nat.{ℕ}
 use Rattle.report.proofs.Putting.{then, loose, named}
 use borrow.Author.Needs.{needs}
