@@ -7,7 +7,7 @@ use lib.Dec.{ltb}
 use lib.ListN.{length, length-append}
 use borrow.Author.Tests.{lt-ltb, le-ltb, ltb-false}
 use Rattle.rules.proofs.Logic.{either}
-use Rattle.report.specs.Text.{decimal, number}
+use Rattle.report.specs.Text.{digit, decimal, number}
 
 -- enough fuel is enough
 enough : (f g n : ℕ) → n < f → n < g → decimal f n ≡ decimal g n
@@ -19,11 +19,11 @@ enough (suc f) (suc g) n l r =
     (λ p. rw (p))
     (λ q. let h : 10 ≤ n = ltb-false n 10 q in rw (q, enough f g (n / 10) (omega arith) (omega arith)))
 
-pub number-digit : (n : ℕ) → n < 10 → number n ≡ (48 + n) ∷ []
+pub number-digit : (n : ℕ) → n < 10 → number n ≡ digit n ∷ []
 unfolding number decimal
 number-digit n l = rw (lt-ltb n 10 l)
 
-pub number-more : (n : ℕ) → 10 ≤ n → number n ≡ number (n / 10) ++ ((48 + n % 10) ∷ [])
+pub number-more : (n : ℕ) → 10 ≤ n → number n ≡ number (n / 10) ++ (digit (n % 10) ∷ [])
 unfolding number decimal
 number-more n l = rw (le-ltb n 10 l, enough n (suc (n / 10)) (n / 10) (omega arith) (omega arith))
 

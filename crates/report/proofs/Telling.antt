@@ -1,7 +1,7 @@
 -- What the router's answer tells is the text of the result that it stands for. Assumes nothing.
 use mathlib.Core.Path.{_≡_, refl, sym, _∙_, ap}
 use mathlib.Core.Bool.{true, false, cond}
-use mathlib.Core.List.{List, [], _∷_, _++_}
+use mathlib.Core.List.{List, _++_}
 use Prim.Native.Nat.{ℕ, _+_, _-_, _*_, _≤_}
 use native.Mathlib.Omega.{arith}
 use lib.Dec.{eqb, leb}
@@ -25,8 +25,9 @@ use Rattle.snapshot.specs.Numbers.{numberOf}
 use Rattle.route.specs.declared.answer.Answer.{Answer}
 use Rattle.route.specs.declared.answer.Answer.the-variants.{Refused, Ended}
 use Rattle.route.specs.Told.{toldOf}
+use Rattle.report.specs.Ascii.{ascii}
 use Rattle.report.specs.Framing.{whole, snapshotLength, headerStart, headerLength, snapshotOf, nowOf, originOf, headerOf, answerTo}
-use Rattle.report.specs.Text.{newline, headText, endText, refusalText, answerText, said, theInput}
+use Rattle.report.specs.Text.{newline, headText, endText, refusalText, answerText, said}
 use Rattle.report.specs.Put.{Put, hopsIn}
 use Rattle.report.proofs.Putting.{named, loose}
 use Rattle.report.proofs.Hopping.{hops-told}
@@ -108,16 +109,16 @@ trip-fits s time origin h room {end} {count} a told e =
 -- the texts
 
 trip-of : (s : List ℕ) (r : Trip) (hops zeros : List ℕ) → hops ≡ written (answered r) zeros
-    → headText s ++ ((newline ∷ []) ++ (endText (r .end) ++ hopsIn hops (length (r .hops)))) ≡ answerText s (answered r)
+    → headText s ++ (newline ++ (endText (r .end) ++ hopsIn hops (length (r .hops)))) ≡ answerText s (answered r)
 unfolding answerText
 trip-of s r hops zeros w = rw (w, hops-told (r .hops) (drop (4 * length (r .hops)) zeros))
 
 trip-text : (s : List ℕ) (x : Result Trip) (end : Outcome) (count : ℕ) (hops zeros : List ℕ) → toldOf (Ended end count) ≡ tells x
-    → hops ≡ written x zeros → headText s ++ ((newline ∷ []) ++ (endText end ++ hopsIn hops count)) ≡ answerText s x
+    → hops ≡ written x zeros → headText s ++ (newline ++ (endText end ++ hopsIn hops count)) ≡ answerText s x
 trip-text s x end count hops zeros e w =
     let t : IsTrip x end count = is-trip x end count e in
-    ap (λ (o : Outcome). headText s ++ ((newline ∷ []) ++ (endText o ++ hopsIn hops count))) (t .ends)
-    ∙ ap (λ (k : ℕ). headText s ++ ((newline ∷ []) ++ (endText (t .trip .end) ++ hopsIn hops k))) (t .counts)
+    ap (λ (o : Outcome). headText s ++ (newline ++ (endText o ++ hopsIn hops count))) (t .ends)
+    ∙ ap (λ (k : ℕ). headText s ++ (newline ++ (endText (t .trip .end) ++ hopsIn hops k))) (t .counts)
     ∙ trip-of s (t .trip) hops zeros (w ∙ ap (λ (y : Result Trip). written y zeros) (t .is))
     ∙ sym (ap (answerText s) (t .is))
 
@@ -171,10 +172,10 @@ module _ (b : List ℕ) (n : ℕ) (long : length b ≡ headerStart b + headerLen
       pub tell-trip : {hops : List ℕ} {end : Outcome} {count : ℕ} {out : List ℕ} {next : ℕ} {after : List ℕ}
           → hops ≡ written (result (take (n + 2 - 2) (drop 2 b)) time origin (take (length b - (n + 2 + 11)) (drop (n + 2 + 11) b)) (length zeros)) zeros
           → a ≡ Ended end count
-          → Put 3135 out 0 (headText (take (n + 2 - 2) (drop 2 b)) ++ ((newline ∷ []) ++ (endText end ++ hopsIn hops count))) next after
+          → Put 3135 out 0 (headText (take (n + 2 - 2) (drop 2 b)) ++ (newline ++ (endText end ++ hopsIn hops count))) next after
           → Put 3135 out 0 (answerText (snapshotOf b) (answerTo b)) next after
       tell-trip {hops} {end} {count} w e p =
-          named (ap (λ (s : List ℕ). headText s ++ ((newline ∷ []) ++ (endText end ++ hopsIn hops count))) same-snapshot
+          named (ap (λ (s : List ℕ). headText s ++ (newline ++ (endText end ++ hopsIn hops count))) same-snapshot
           ∙ trip-text (snapshotOf b) (answerTo b) end count hops zeros (sym (ap toldOf e) ∙ told-answer) (w ∙ ap (λ (x : Result Trip). written x zeros) same-answer)) p
 
 -- framed or not
@@ -182,6 +183,6 @@ pub said-whole : (b : List ℕ) → whole b ≡ true → said b ≡ answerText (
 unfolding said
 said-whole b e = rw e
 
-pub said-broken : (b : List ℕ) → whole b ≡ false → said b ≡ theInput
+pub said-broken : (b : List ℕ) → whole b ≡ false → said b ≡ ascii "input"
 unfolding said
 said-broken b e = rw e

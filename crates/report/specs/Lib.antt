@@ -1,3 +1,4 @@
 pub mod Framing
+pub mod Ascii
 pub mod Text
 pub mod Put

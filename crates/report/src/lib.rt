@@ -17,7 +17,7 @@ use rules::Outcome;
 use words::le_u16;
 use words::le_u64;
 ghost use mathlib.Core.Path.{_≡_};
-ghost use mathlib.Core.List.{[], _∷_, _++_};
+ghost use mathlib.Core.List.{_++_};
 ghost use Prim.Native.Nat.{_+_, _≤_};
 ghost use lib.ListN.{length, take, drop};
 ghost use Rattle.report.specs.Framing.{headerStart, headerLength, snapshotLength, snapshotOf, answerTo};
@@ -27,7 +27,7 @@ ghost use Rattle.report.specs.Put.{Put, hopsIn};
 // The two lines of an answer: the head, then the outcome with its hops.
 fn put_trip(out: &mut [u8; 4096], s: &[u8], end: Outcome, hops: &[u8; 1028], count: u16) -> usize
     requires { ⌜ (8 ≤ length (now s)) × (count ≤ 257) ⌝ }
-    ensures { λ r. ⌜ Put 3135 (now (out .entry)) 0 (headText (now (s .entry)) ++ ((newline ∷ []) ++ (endText end ++ hopsIn (now (hops .entry)) count))) r (now (out .exit)) ⌝ }
+    ensures { λ r. ⌜ Put 3135 (now (out .entry)) 0 (headText (now (s .entry)) ++ (newline ++ (endText end ++ hopsIn (now (hops .entry)) count))) r (now (out .exit)) ⌝ }
 {
     let headed = put_head(out, 0, s);
     let parted = put_byte(out, headed, b'\n');

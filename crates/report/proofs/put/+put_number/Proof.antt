@@ -1,10 +1,10 @@
 -- The proof of the cycle of calls {put_number}: digit by digit. The measure is the number. Assumes nothing.
-use Rattle.report.proofs.Digits.{number-one, number-more-put}
+use Prim.Native.Nat.{ℕ, _<_}
 use native.Mathlib.Omega.{arith}
 use borrow.Author.Needs.{needs}
-use Prim.Native.Nat.{ℕ, _<_}
 use borrow.Fn.Kinds.{In}
 use borrow.Fn.PlainCycle.{Measures, is, falls, and}
+use Rattle.report.proofs.Digits.{number-one, number-more-put}
 use Rattle.report.proofs.put.put_number.Reads as put-number
 use Rattle.report.proofs.put.put_number.Kinds as put-number-kinds
 use Rattle.report.proofs.put.+put_number.Lts-put_number as put-number-lts
@@ -16,93 +16,10 @@ abbrev μ-put-number : Measures 1 put-number-kinds.ps ℕ
 μ-put-number κs a = a .1 .1 .0
 
 abbrev put-number-at : ℕ → In 1 put-number-kinds.ps
-put-number-at t =
-    and 1 put-number-kinds.ps (is 1 put-number-kinds.ps μ-put-number t) put-number.Pre
+put-number-at t = and 1 put-number-kinds.ps (is 1 put-number-kinds.ps μ-put-number t) put-number.Pre
 
 abbrev put-number-below : ℕ → In 1 put-number-kinds.ps
-put-number-below t =
-    and 1 put-number-kinds.ps (falls 1 put-number-kinds.ps _<_ μ-put-number t) put-number.Pre
-
--- src/put.rt:35:39
-put-number-cast-put-byte : (t : ℕ) → put-number-lts.Need-cast-put-byte (
-  put-byte-reads.Asked,
-  put-byte-reads.Learnt,
-  put-number-below t,
-  put-number.Post,
-) (put-number-at t) put-number.Post
-put-number-cast-put-byte t c = search needs
-
--- src/put.rt:35:34
-put-number-add-put-byte : (t : ℕ) → put-number-lts.Need-add-put-byte (
-  put-byte-reads.Asked,
-  put-byte-reads.Learnt,
-  put-number-below t,
-  put-number.Post,
-) (put-number-at t) put-number.Post
-put-number-add-put-byte t c = search needs
-
--- src/put.rt:35:9
-put-number-put-byte-requires : (t : ℕ) → put-number-lts.Need-put-byte-requires (
-  put-byte-reads.Asked,
-  put-byte-reads.Learnt,
-  put-number-below t,
-  put-number.Post,
-) (put-number-at t) put-number.Post
-put-number-put-byte-requires t c κs = search needs
-
--- src/put.rt:35:9
-put-number-returns : (t : ℕ) → put-number-lts.Need-returns (
-  put-byte-reads.Asked,
-  put-byte-reads.Learnt,
-  put-number-below t,
-  put-number.Post,
-) (put-number-at t) put-number.Post
-put-number-returns t c = number-one _ (c .before .before .if1 .taken) (omega arith) (c .put-byte .ensures)
-
--- src/put.rt:37:9
-put-number-put-number-requires : (t : ℕ) → put-number-lts.Need-put-number-requires (
-  put-byte-reads.Asked,
-  put-byte-reads.Learnt,
-  put-number-below t,
-  put-number.Post,
-) (put-number-at t) put-number.Post
-put-number-put-number-requires t c κs = (omega arith, tt)
-
--- src/put.rt:38:30
-put-number-cast-put-byte-2 : (t : ℕ) → put-number-lts.Need-cast-put-byte-2 (
-  put-byte-reads.Asked,
-  put-byte-reads.Learnt,
-  put-number-below t,
-  put-number.Post,
-) (put-number-at t) put-number.Post
-put-number-cast-put-byte-2 t c = search needs
-
--- src/put.rt:38:25
-put-number-add-put-byte-2 : (t : ℕ) → put-number-lts.Need-add-put-byte-2 (
-  put-byte-reads.Asked,
-  put-byte-reads.Learnt,
-  put-number-below t,
-  put-number.Post,
-) (put-number-at t) put-number.Post
-put-number-add-put-byte-2 t c = search needs
-
--- src/put.rt:38:5
-put-number-put-byte-requires-2 : (t : ℕ) → put-number-lts.Need-put-byte-requires-2 (
-  put-byte-reads.Asked,
-  put-byte-reads.Learnt,
-  put-number-below t,
-  put-number.Post,
-) (put-number-at t) put-number.Post
-put-number-put-byte-requires-2 t c κs = search needs
-
--- src/put.rt:31:1
-put-number-returns-2 : (t : ℕ) → put-number-lts.Need-returns-2 (
-  put-byte-reads.Asked,
-  put-byte-reads.Learnt,
-  put-number-below t,
-  put-number.Post,
-) (put-number-at t) put-number.Post
-put-number-returns-2 t c = number-more-put _ (c .before .before .before .before .if1 .left) (omega arith) (c .before .before .put-number .ensures) (c .put-byte2 .ensures)
+put-number-below t = and 1 put-number-kinds.ps (falls 1 put-number-kinds.ps _<_ μ-put-number t) put-number.Pre
 
 pub +put-number-spec : {M : Type 1} → statement M
 +put-number-spec = close μ-put-number λ t. put-number-lts.spec (
@@ -113,12 +30,12 @@ pub +put-number-spec : {M : Type 1} → statement M
 )
     (put-number-at t)
     put-number.Post
-    (put-number-cast-put-byte t)
-    (put-number-add-put-byte t)
-    (put-number-put-byte-requires t)
-    (put-number-returns t)
-    (put-number-put-number-requires t)
-    (put-number-cast-put-byte-2 t)
-    (put-number-add-put-byte-2 t)
-    (put-number-put-byte-requires-2 t)
-    (put-number-returns-2 t)
+    (λ c. search needs)
+    (λ c. search needs)
+    (λ c κs. search needs)
+    (λ c. number-one _ (omega arith) (omega arith) (c .put-byte .ensures))
+    (λ c κs. (omega arith, tt))
+    (λ c. search needs)
+    (λ c. search needs)
+    (λ c κs. search needs)
+    (λ c. number-more-put _ (omega arith) (omega arith) (c .before .before .put-number .ensures) (c .put-byte2 .ensures))
