@@ -4,6 +4,7 @@ use mathlib.Core.Bool.{Bool, true, false, and-true}
 use mathlib.Core.List.{List}
 use Prim.Native.Nat.{ℕ, _+_, _^_, _<_}
 use native.Mathlib.Omega.{arith}
+use lib.Dec.{eqb}
 use borrow.Author.Tests.{eqb-true, ne-eqb}
 use Rattle.rules.specs.Snapshot.{kind, parent, isRoot}
 use Rattle.rules.specs.Records.{parentFine, standsAlone, clash}

@@ -9,12 +9,13 @@ use crate::fields::version;
 use crate::records::lowest_faulty;
 use rules::Found;
 ghost use mathlib.Core.Path.{_≡_};
+ghost use mathlib.Core.Bool.{not};
 ghost use Prim.Native.Nat.{_≤_};
 ghost use lib.ListN.{length};
 ghost use Rattle.rules.specs.Refuse as refuse;
-ghost use Rattle.snapshot.specs.Numbers.{checkedAs, refusedIf};
+ghost use Rattle.snapshot.specs.Numbers.{checkedAs, firstRefusal, refusedIf};
 
-pub fn begun(s: &[u8]) -> bool
+fn begun(s: &[u8]) -> bool
     ensures { λ r. ⌜ r ≡ refuse.begun (now (s .entry)) ⌝ }
 {
     if s.len() < 24 {
@@ -23,14 +24,14 @@ pub fn begun(s: &[u8]) -> bool
     words::has_mark(s)
 }
 
-pub fn known_version(s: &[u8]) -> bool
+fn known_version(s: &[u8]) -> bool
     requires { ⌜ 24 ≤ length (now s) ⌝ }
     ensures { λ r. ⌜ r ≡ refuse.knownVersion (now (s .entry)) ⌝ }
 {
     version(s) == 1
 }
 
-pub fn well_made(s: &[u8]) -> bool
+fn well_made(s: &[u8]) -> bool
     requires { ⌜ 24 ≤ length (now s) ⌝ }
     ensures { λ r. ⌜ r ≡ refuse.wellMade (now (s .entry)) ⌝ }
 {
@@ -38,18 +39,35 @@ pub fn well_made(s: &[u8]) -> bool
     (flags(s) < 4) & (n <= 256) & (taken(s) <= good_until(s)) & (s.len() == 24 + 144 * (n as usize))
 }
 
-pub fn in_time(s: &[u8], time: u64) -> bool
+fn in_time(s: &[u8], time: u64) -> bool
     requires { ⌜ 24 ≤ length (now s) ⌝ }
     ensures { λ r. ⌜ r ≡ refuse.inTime (now (s .entry)) time ⌝ }
 {
     (taken(s) <= time) & (time <= good_until(s))
 }
 
-// Only a faulty record has an index of its own.
-fn refused(why: Refusal) -> Check
-    ensures { λ r. ⌜ r ≡ Check.Refused why 0 ⌝ }
+// Refusals 2, the rest of 1, and 3, in their order.
+fn first_refusal(wrong_version: bool, ill_made: bool, untimely: bool) -> Check
+    ensures { λ r. ⌜ r ≡ firstRefusal «wrong_version» «ill_made» untimely ⌝ }
 {
-    Check::Refused(why, 0)
+    if wrong_version {
+        return Check::Refused(Refusal::Version, 0);
+    }
+    if ill_made {
+        return Check::Refused(Refusal::Malformed, 0);
+    }
+    if untimely {
+        return Check::Refused(Refusal::Time, 0);
+    }
+    Check::Accepted
+}
+
+// What the header is refused for.
+fn check_header(s: &[u8], time: u64) -> Check
+    requires { ⌜ 24 ≤ length (now s) ⌝ }
+    ensures { λ r. ⌜ r ≡ firstRefusal (not (refuse.knownVersion (now (s .entry)))) (not (refuse.wellMade (now (s .entry)))) (not (refuse.inTime (now (s .entry)) time)) ⌝ }
+{
+    first_refusal(!known_version(s), !well_made(s), !in_time(s, time))
 }
 
 // The answer by what the search for a faulty record gives.
@@ -65,17 +83,12 @@ fn refused_if(faulty: Found) -> Check
 pub fn check(s: &[u8], time: u64) -> Check
     ensures { λ r. ⌜ checkedAs r ≡ refuse.checked (now (s .entry)) time ⌝ }
 {
-    if !begun(s) {
-        return refused(Refusal::Malformed);
+    if begun(s) {
+        match check_header(s, time) {
+            Check::Accepted => refused_if(lowest_faulty(s, count(s))),
+            Check::Refused(why, i) => Check::Refused(why, i),
+        }
+    } else {
+        Check::Refused(Refusal::Malformed, 0)
     }
-    if !known_version(s) {
-        return refused(Refusal::Version);
-    }
-    if !well_made(s) {
-        return refused(Refusal::Malformed);
-    }
-    if !in_time(s, time) {
-        return refused(Refusal::Time);
-    }
-    refused_if(lowest_faulty(s, count(s)))
 }
