@@ -37,7 +37,7 @@ enum {
     ACS_KIND_DELIVERED_UNVALIDATED = 0,  /* reaches an endpoint, not reflected by the root complex */
     ACS_KIND_DELIVERED_CHECKED = 1,      /* reaches an endpoint, reflected by the root complex */
     ACS_KIND_HOST = 2,                   /* reaches the host */
-    ACS_KIND_UNCLAIMED = 3,              /* ends at a node where nobody covers it */
+    ACS_KIND_UNCLAIMED = 3,              /* ends at a node from which nobody takes it on */
     ACS_KIND_UNDEFINED = 4,              /* ends at a port that covers it itself with U off */
     ACS_KIND_VIOLATION = 5,              /* stopped by access control, see the letters */
     ACS_KIND_REFUSED = 6                 /* no answer, see the refusal numbers */
@@ -71,7 +71,7 @@ enum {
     ACS_ACTION_DIRECT = 4,      /* direct to a peer */
     ACS_ACTION_REFLECTED = 5,   /* reflected by the root complex */
     ACS_ACTION_DOWN = 6,        /* down */
-    ACS_ACTION_END = 7          /* ends here: violation, undefined, unclaimed or delivered */
+    ACS_ACTION_END = 7          /* ends here: violation, undefined, unclaimed, delivered, host */
 };
 
 /* Kind of a record: byte 0 of the record. */

@@ -1,4 +1,4 @@
--- Inputs alone determine the answer word and the last bytes of the buffer: whatever meets the promise gives the same. There is no
+-- Inputs alone determine the answer word and the final bytes of the buffer: whatever meets the promise gives the same. There is no
 -- exception. Assumes nothing.
 use mathlib.Core.Path.{_≡_, sym, _∙_}
 use mathlib.Core.List.{List}

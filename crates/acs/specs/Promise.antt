@@ -1,4 +1,4 @@
--- What the two calls promise, for all inputs. No call asks anything of its caller.
+-- What the two calls promise, for all inputs: no contract asks anything of its caller.
 use mathlib.Core.Path.{_≡_}
 use mathlib.Core.List.{List}
 use Prim.Native.Nat.{ℕ}

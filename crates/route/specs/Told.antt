@@ -20,7 +20,7 @@ wentFrom k r = record { end = r .end; hops = k + length (r .hops) }
 abbrev pub arrivedFrom : Bool → Sunk → Went
 arrivedFrom checked w = record { end = landed checked (w .landing); hops = w .hops }
 
--- the paper's numbers for each case of an answer
+-- the numbers for each case of an answer
 abbrev pub toldOf : Answer → Told
 toldOf (Refused why i) = tellsRefusal (numberOf why) i
 toldOf (Ended end count) = tellsEnd end count

@@ -1,9 +1,9 @@
--- Document 01's demands on a fleet's settings, of snapshots as bytes and of the very definitions that the library's promises cite.
+-- What holds of a fleet's settings, of snapshots as bytes and of the very definitions that the library's promises cite.
 -- Each statement needs only itself and the definitions that it names. Assumes nothing.
 use mathlib.Core.Path.{_≡_, refl, sym, _∙_, ap, subst}
 use mathlib.Core.Bool.{true, false}
 use mathlib.Core.List.{List}
-use Prim.Native.Nat.{ℕ, _+_, _*_, _≤_}
+use Prim.Native.Nat.{ℕ, zero, suc, _+_, _*_, _≤_}
 use native.Mathlib.Omega.{arith}
 use lib.Dec.{lit<}
 use lib.ListN.{length}
@@ -18,7 +18,7 @@ use Rattle.rules.specs.Cover.{covers}
 use Rattle.rules.specs.Decide.{complex}
 use Rattle.rules.specs.Route.{Trip, above, up}
 use Rattle.rules.specs.Refuse.{refused, answered, through, fits, checked, routed, result}
-use Rattle.rules.specs.Demand.{AreBytes, OneWay, IsPort, IsEndpoint, EveryU, Locked, wasSentUp, Answerable}
+use Rattle.rules.specs.Demand.{AreBytes, OneWay, IsPort, IsEndpoint, EveryU, Locked, wasSentUp, portAbove, Answerable}
 use Rattle.rules.specs.Tight.{Alike, AtLeastAsTight}
 use Rattle.rules.specs.Bound.{ports, depth, hopBound, mostHops, roomForAll}
 use Rattle.rules.proofs.Logic.{clash}
@@ -171,8 +171,22 @@ covered-above s now t p q ok at-p r at-q e c =
           (record { present = at-q .0; port = at-q .1; sibling = e; covering = c }),
     )
 
--- so it ends in a checked delivery, unclaimed below the root port that reflected it, violation V, B or X, or undefined: never at the
--- host, and never in an unvalidated delivery.
+-- .. which is to say: as long as the ports on the way are no root ports, n + 1 steps up lead to a port that covers it;
+pub covered-at-every-port-above :
+    (s : List ℕ) (now : ℕ) (t : Tlp) (p q n : ℕ)
+    → checked s now ≡ answered tt
+    → IsPort s p → IsPort s q → parent s q ≡ parent s p
+    → covers (shapeOf s) t q ≡ true
+    → ((k : ℕ) → k ≤ n → isRoot (kind s (portAbove (shapeOf s) k p)) ≡ false)
+    → IsPort s (portAbove (shapeOf s) (suc n) p) × (covers (shapeOf s) t (portAbove (shapeOf s) (suc n) p) ≡ true)
+unfolding portAbove
+covered-at-every-port-above s now t p q zero ok at-p at-q e c r = covered-above s now t p q ok at-p (r 0 (omega arith)) at-q e c
+covered-at-every-port-above s now t p q (suc n) ok at-p at-q e c r =
+    let (port, covering) = covered-at-every-port-above s now t p q n ok at-p at-q e c (λ k l. r k (omega arith)) in
+    covered-above s now t (portAbove (shapeOf s) (suc n) p) (portAbove (shapeOf s) (suc n) p) ok port (r (suc n) (omega arith)) port refl covering
+
+-- so it ends in a checked delivery, unclaimed at the root port that it is reflected through or below it, violation V, B or X, or
+-- undefined: never at the host, and never in an unvalidated delivery.
 pub sent-up-is-answered-for :
     (s : List ℕ) (now o : ℕ) (h : List ℕ) (room : ℕ) (r : Trip)
     → result s now o h room ≡ answered r

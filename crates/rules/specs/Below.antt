@@ -1,4 +1,4 @@
--- Tests over the numbers below a bound, and the first number that passes one. Every loop of the code is one of these.
+-- Tests over the numbers below a bound, and the first number that passes one: what the loops over records, ranges and bits work out.
 use mathlib.Core.Bool.{Bool, true, false, cond, _&&_, _||_}
 use mathlib.Core.List.{List, [], _∷_}
 use Prim.Native.Nat.{ℕ, zero, suc}

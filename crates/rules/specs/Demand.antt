@@ -2,7 +2,7 @@
 use mathlib.Core.Path.{_≡_}
 use mathlib.Core.Bool.{Bool, true, false, _||_}
 use mathlib.Core.List.{List, [], _∷_}
-use Prim.Native.Nat.{ℕ, _≤_, _<_}
+use Prim.Native.Nat.{ℕ, zero, suc, _≤_, _<_}
 use lib.Dec.{eqb}
 use Rattle.rules.specs.declared.Letter.the-variants.{Egress}
 use Rattle.rules.specs.declared.Outcome.{Outcome}
@@ -13,7 +13,7 @@ use Rattle.rules.specs.Fabric.{Shape}
 use Rattle.rules.specs.declared.Tlp.{Tlp}
 use Rattle.rules.specs.Cover.{covers, isPeer, isEntry, isChild, isWayOn}
 use Rattle.rules.specs.Decide.{complex, redirectedUp, upByU, reflected}
-use Rattle.rules.specs.Route.{Hop}
+use Rattle.rules.specs.Route.{Hop, above}
 
 -- What the record rules give of the tree, as routing sees it.
 pub record WellFormed (sh : Shape) : Type 0 where
@@ -81,6 +81,11 @@ pub record LockedAt (s : List ℕ) (p : ℕ) : Type 0 where
 
 abbrev pub Locked : List ℕ → Type 0
 Locked s = (p : ℕ) → IsPort s p → LockedAt s p
+
+-- the port n steps above p
+unfoldable pub portAbove : Shape → ℕ → ℕ → ℕ
+portAbove sh zero p = p
+portAbove sh (suc n) p = above sh (portAbove sh n p)
 
 -- some hop was redirected up, up by U, or reflected
 abbrev pub wasSentUp : List Hop → Bool

@@ -1,5 +1,5 @@
 -- When a record is faulty: the rules of document 01, a definition to each, in its order. Record i is held against itself and
--- earlier records; nothing past record i is read, the header's count neither.
+-- earlier records; it depends on nothing past record i, nor on the header's count.
 use mathlib.Core.Bool.{Bool, true, cond, _&&_, _||_, not}
 use mathlib.Core.List.{List, [], _∷_}
 use Prim.Native.Nat.{ℕ, _+_, _-_, _^_, _%_}

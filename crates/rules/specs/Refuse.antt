@@ -1,4 +1,4 @@
--- The refusal table in its exact order, the whole answer, and the last bytes of the buffer.
+-- The refusal table in its exact order, the whole answer, and the final bytes of the buffer.
 use mathlib.Core.Bool.{Bool, true, false, _&&_, _||_}
 use mathlib.Core.List.{List, [], _∷_, _++_}
 use Prim.Native.Nat.{ℕ, _+_, _*_}

@@ -1,4 +1,5 @@
--- The answer as numbers: the eight bytes of the answer word, and the paper's value of each for every case.
+-- The answer as numbers: the eight bytes of the answer word, and the value of each for every case. Refusal numbers, indexes, nodes and
+-- hop counts are document 01's; kinds and letters have the numbers of the C interface.
 use mathlib.Core.Bool.{cond}
 use Prim.Native.Nat.{ℕ, _+_, _*_, _^_}
 use lib.ListN.{length}

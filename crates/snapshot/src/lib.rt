@@ -6,6 +6,6 @@ pub mod fields;
 pub mod kinds;
 mod places;
 mod ranges;
-pub mod records;
+mod records;
 mod registers;
 mod siblings;

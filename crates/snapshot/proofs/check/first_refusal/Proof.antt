@@ -1,5 +1,4 @@
 -- `snapshot::check::first_refusal` meets its contract, test by test. Assumes nothing.
-use borrow.Author.Needs.{needs}
 use Rattle.snapshot.proofs.check.first_refusal.Statement.{statement}
 use Rattle.snapshot.proofs.check.first_refusal.Tie as tie
 
