@@ -16,7 +16,7 @@ const MIB: u64 = 1 << 20;
 const PEER: u64 = 0x8010_0000;
 
 /// Random fabrics of 2 to 6 records, with some queries and damages each.
-const RANDOM_FABRICS: usize = 380;
+const RANDOM_FABRICS: usize = 350;
 
 /// The inputs, the same in every run.
 pub fn items() -> Vec<Vec<u8>> {
@@ -117,8 +117,9 @@ impl Corpus {
         // No snapshot, no header.
         self.items.push(input_bytes(&[], NOW, 1, &[]));
         self.items.push(input_bytes(&pair().bytes(), NOW, 1, &[]));
-        // 65,804 bytes, one more than any input has.
+        // 65,804 bytes, one more than any input has, and far more.
         self.items.push(vec![0xFF; 65_804]);
+        self.items.push(vec![0xFF; 70_000]);
     }
 
     /// Every refusal but 7, alone and with every other at once.
