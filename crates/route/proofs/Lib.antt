@@ -4,3 +4,4 @@ pub mod Laid
 pub mod Sinking
 pub mod Rising
 pub mod Answering
+pub mod Once
