@@ -64,7 +64,7 @@ fn bad_source(s: &[u8], t: Tlp, p: u16) -> bool
 {
     let bus = t.bus;
     let b = bus.0;
-    t.request
+    t.request // a completion's source is never validated
         & fields::control(s, p).on(Acs::V)
         & !((fields::secondary(s, p).0 <= b) & (b <= fields::subordinate(s, p).0))
 }
