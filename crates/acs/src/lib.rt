@@ -5,13 +5,12 @@ use route::hops::COMPLEX;
 use rules::Letter;
 use rules::Outcome;
 use snapshot::answers::Check;
-use snapshot::answers::Refusal;
+use snapshot::answers::refusal_number;
 use snapshot::check::check;
 ghost use mathlib.Core.Path.{_≡_};
 ghost use mathlib.Core.Bool.{cond};
 ghost use Prim.Native.Nat.{_+_, _*_};
 ghost use Rattle.rules.specs.Word.{letterNumber, tellsEnd, wordOf, told};
-ghost use Rattle.snapshot.specs.Numbers.{numberOf};
 ghost use Rattle.acs.specs.Promise.{answerWord, checkedWord, Checked, Routed};
 
 fn one_if(b: bool) -> u8
@@ -39,20 +38,6 @@ fn letter_number(l: Letter) -> u8
         Letter::Translation => 1,
         Letter::Egress => 5,
         Letter::Validation => 7,
-    }
-}
-
-fn refusal_number(why: Refusal) -> u8
-    ensures { λ r. ⌜ r ≡ numberOf why ⌝ }
-{
-    match why {
-        Refusal::Malformed => 1,
-        Refusal::Version => 2,
-        Refusal::Time => 3,
-        Refusal::Faulty => 4,
-        Refusal::Origin => 5,
-        Refusal::Header => 6,
-        Refusal::Room => 7,
     }
 }
 

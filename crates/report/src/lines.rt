@@ -5,6 +5,7 @@ use crate::put::put_word;
 use rules::Letter;
 use rules::Outcome;
 use snapshot::answers::Refusal;
+use snapshot::answers::refusal_number;
 use words::le_u16;
 ghost use mathlib.Core.Path.{_≡_};
 ghost use mathlib.Core.List.{_++_};
@@ -122,26 +123,11 @@ pub fn put_head(out: &mut [u8; 4096], at: usize, s: &[u8]) -> usize
     put_number(out, named, le_u16(s, 6))
 }
 
-// Document 01's number of a refusal.
-fn number_of(why: Refusal) -> u16
-    ensures { λ r. ⌜ r ≡ numberOf why ⌝ }
-{
-    match why {
-        Refusal::Malformed => 1,
-        Refusal::Version => 2,
-        Refusal::Time => 3,
-        Refusal::Faulty => 4,
-        Refusal::Origin => 5,
-        Refusal::Header => 6,
-        Refusal::Room => 7,
-    }
-}
-
 // A refusal's number and index.
 pub fn put_refusal(out: &mut [u8; 4096], at: usize, why: Refusal, i: u16) -> usize
     ensures { λ r. ⌜ Put 19 (now (out .entry)) at (text.refusalText (numberOf why) i) r (now (out .exit)) ⌝ }
 {
-    let named = put_named(out, at, b"refusal ", number_of(why));
+    let named = put_named(out, at, b"refusal ", refusal_number(why) as u16);
     let spaced = put_byte(out, named, b' ');
     put_number(out, spaced, i)
 }

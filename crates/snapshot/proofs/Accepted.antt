@@ -9,13 +9,14 @@ use borrow.Author.Tests.{eqb-true, leb-true}
 use Rattle.rules.specs.declared.Found.the-variants.{Nothing}
 use Rattle.rules.specs.Snapshot.{marked, flags, count, taken, goodUntil}
 use Rattle.rules.specs.Records.{lowestFaulty}
-use Rattle.rules.specs.Refuse.{Result, refused, answered, through, begun, knownVersion, wellMade, inTime, readGates, checked}
+use Rattle.rules.specs.Refuse.{Result, refused, through, begun, wellMade, readGates, checked}
 use Rattle.rules.proofs.Logic.{both}
+use Rattle.rules.proofs.Accepted.{Readable, accepted-read, read-through}
 use Rattle.snapshot.specs.declared.answers.Refusal.{Refusal}
 use Rattle.snapshot.specs.declared.answers.Check.{Check}
 use Rattle.snapshot.specs.declared.answers.Check.the-variants.{Accepted, Refused}
 use Rattle.snapshot.specs.Numbers.{numberOf, checkedAs}
-use Rattle.snapshot.proofs.Gates.{through-open, through-refused, Passed, passed}
+use Rattle.snapshot.proofs.Gates.{through-refused}
 
 -- what a snapshot that begins has room for
 pub begun-room : (s : List ℕ) → begun s ≡ true → 24 ≤ length s
@@ -46,18 +47,16 @@ pub record Facts (s : List ℕ) : Type 0 where
   pub clean : lowestFaulty s ≡ Nothing
 
 module _ (s : List ℕ) (time : ℕ) (r : Check) (is : checkedAs r ≡ checked s time) where
-  answers : r ≡ Accepted → _≡_ {A = Result (Unit {0})} (answered tt) (through (readGates s time) (answered tt))
-  unfolding checked
-  answers e = sym (ap checkedAs e) ∙ is
+  readable : r ≡ Accepted → Readable s time
+  readable e = accepted-read s time (sym is ∙ ap checkedAs e)
 
   pub accepted-facts : r ≡ Accepted → Facts s
   accepted-facts e =
-      let p : Passed (begun s) (knownVersion s) (wellMade s) (inTime s time) (lowestFaulty s)
-      = passed (begun s) (knownVersion s) (wellMade s) (inTime s time) (lowestFaulty s) (answers e) in
-      let w : Whole s = made-whole s (p .made) in record { few = w .few; whole = w .whole; clean = p .clean }
+      let p : Readable s time = readable e in
+      let w : Whole s = made-whole s (p .made) in record { few = w .few; whole = w .whole; clean = p .faultless }
 
   pub accepted-opens : {A : Type 0} → r ≡ Accepted → (rest : Result A) → through (readGates s time) rest ≡ rest
-  accepted-opens e rest = through-open (readGates s time) rest (answers e)
+  accepted-opens e rest = read-through s rest time (readable e)
 
   pub refused-refuses : {A : Type 0} {why : Refusal} {i : ℕ} → r ≡ Refused why i → (rest : Result A)
       → through (readGates s time) rest ≡ refused (numberOf why) i

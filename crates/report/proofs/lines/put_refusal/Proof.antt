@@ -12,5 +12,5 @@ use Rattle.report.proofs.lines.put_refusal.Tie as tie
 pub put-refusal-spec : {M : Type 1} → statement M
 unfolding refusalText
 put-refusal-spec = tie.close (tie.spec
-    (λ c. search needs) (λ c κs. search needs) (λ c κs. search needs) (λ c κs. search needs) (λ c κs. search needs)
-    (λ c. then (named (ap (λ (n : ℕ). ascii "refusal " ++ number n) (c .before .before .before .before .before .number-of .ensures)) (c .before .before .before .before .put-named .ensures)) (then (c .before .before .put-byte .ensures) (c .put-number .ensures))))
+    (λ c. search needs) (λ c κs. search needs) (λ c. search needs) (λ c κs. search needs) (λ c κs. search needs) (λ c κs. search needs)
+    (λ c. then (named (ap (λ (n : ℕ). ascii "refusal " ++ number n) (c .before .before .before .before .before .refusal-number .ensures)) (c .before .before .before .before .put-named .ensures)) (then (c .before .before .put-byte .ensures) (c .put-number .ensures))))
