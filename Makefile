@@ -40,7 +40,9 @@ endif
 
 SNAPSHOTS := examples/snapshots
 INDEPENDENT := --release --offline --manifest-path independent/Cargo.toml
-AGAINST = ACS_LIB='$(abspath $(dir $(ACS_LIB)))' $(CARGO_ENV) $(CARGO) run $(INDEPENDENT) -p against
+WITH_LIB = ACS_LIB='$(abspath $(dir $(ACS_LIB)))' $(CARGO_ENV) $(CARGO)
+AGAINST = $(WITH_LIB) run $(INDEPENDENT) -p against
+FAULTS := independent/target/faults
 SEEDED = $(if $(SEED),--seed $(SEED)) $(if $(CASES),--cases $(CASES))
 
 .DELETE_ON_ERROR:
@@ -157,13 +159,15 @@ compare: $(ACS_LIB)
 	$(AGAINST) --bin compare -- $(SEEDED)
 
 faults: $(ACS_LIB)
-	$(AGAINST) --bin compare -- --faults $(SEEDED)
+	$(CARGO) run $(INDEPENDENT) -p apply -- independent/faults independent $(FAULTS)
+	$(WITH_LIB) build -q --keep-going --release --offline --manifest-path $(FAULTS)/Cargo.toml
+	$(WITH_LIB) run -q --release --offline --manifest-path $(FAULTS)/Cargo.toml -- $(SEEDED)
 
 bench: $(ACS_LIB)
 	$(AGAINST) --bin bench
 
 corpus:
-	$(CARGO) run $(INDEPENDENT) -p model --bin corpus -- crates/acscases
+	$(CARGO) run $(INDEPENDENT) -p cases --bin corpus -- crates/acscases
 
 snapshots:
 	$(PYTHON) tools/make_snapshots.py

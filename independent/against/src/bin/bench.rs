@@ -4,10 +4,10 @@
 use std::hint::black_box;
 use std::time::Instant;
 
-use model::answer::Word;
-use model::cases::ROOM;
-use model::fabric::{fabric_f, request, Fabric, WRITE};
-use model::shapes::{chain, wide};
+use against::library;
+use cases::fabric::{fabric_f, request, Fabric, WRITE};
+use cases::shapes::{chain, wide};
+use model::{Word, ROOM};
 
 const NOW: u64 = 1500;
 const ROUNDS: usize = 60;
@@ -111,7 +111,7 @@ fn main() {
 }
 
 fn library_check(subject: &Subject) -> u64 {
-    against::check(black_box(&subject.snapshot), NOW)
+    library::check(black_box(&subject.snapshot), NOW)
 }
 
 fn model_check(subject: &Subject) -> u64 {
@@ -120,7 +120,7 @@ fn model_check(subject: &Subject) -> u64 {
 
 fn library_route(subject: &Subject) -> u64 {
     let mut hops = [0; ROOM];
-    let word = against::route(
+    let word = library::route(
         black_box(&subject.snapshot),
         NOW,
         subject.origin,
