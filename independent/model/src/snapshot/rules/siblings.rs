@@ -18,20 +18,21 @@ fn pair_right(node: &Node, sibling: &Node) -> bool {
 
 /// Siblings' bus ranges don't meet.
 fn buses_apart(node: &Node, sibling: &Node) -> bool {
-    !(node.kind.is_bridge() && sibling.kind.is_bridge())
-        || node.secondary > sibling.subordinate
-        || sibling.secondary > node.subordinate
+    let bridges = node.kind.is_bridge() && sibling.kind.is_bridge();
+    let meet = node.secondary <= sibling.subordinate && sibling.secondary <= node.subordinate;
+    !(bridges && meet)
 }
 
 /// Port Numbers differ among sibling ports.
 fn port_numbers_differ(node: &Node, sibling: &Node) -> bool {
-    !(node.kind.is_port() && sibling.kind.is_port()) || node.port_number != sibling.port_number
+    let ports = node.kind.is_port() && sibling.kind.is_port();
+    !(ports && node.port_number == sibling.port_number)
 }
 
 /// Byte 5 differs among sibling ports.
 fn byte_five_differs(node: &Node, sibling: &Node) -> bool {
-    !(node.kind.is_port() && sibling.kind.is_port())
-        || node.device_function != sibling.device_function
+    let ports = node.kind.is_port() && sibling.kind.is_port();
+    !(ports && node.device_function == sibling.device_function)
 }
 
 /// A node's open ranges don't overlap a sibling's.
