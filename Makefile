@@ -61,6 +61,7 @@ help:
 	@echo 'make compare     the library against the independent program (SEED=S CASES=N)'
 	@echo 'make faults      that the comparison notices each deliberate fault (SEED=S CASES=N)'
 	@echo 'make bench       the library beside the independent program, timed'
+	@echo 'make instructions  the same, counted in instructions (needs valgrind)'
 	@echo 'make stack       how much stack the two calls need'
 	@echo 'make symbols     what the archive defines and needs, and that it has no memory of its own'
 	@echo 'make corpus      write the cases of crates/acscases anew'
@@ -165,6 +166,10 @@ faults: $(ACS_LIB)
 
 bench: $(ACS_LIB)
 	$(AGAINST) --bin bench
+
+.PHONY: instructions
+instructions: $(ACS_LIB)
+	$(AGAINST) --bin instructions
 
 corpus:
 	$(CARGO) run $(INDEPENDENT) -p cases --bin corpus -- crates/acscases

@@ -606,3 +606,131 @@ pub fn with_endpoints(mut fabric: Fabric, count: usize) -> Fabric {
     }
     fabric
 }
+
+/// So many root ports with a switch each, and so many slots on each switch with
+/// an endpoint in each: `switches * (2 + 2 * slots)` records, the root ports and
+/// switches first, then the slots of all, then the endpoints.
+pub fn slots(switches: usize, slots: usize, flags: u8, control: u16) -> Fabric {
+    let buses = 2 + slots;
+    let window = MIB * slots as u64;
+    let mut list = Vec::new();
+    for number in 0..switches {
+        let bus = (1 + buses * number) as u8;
+        let first = WINDOW.0 + window * number as u64;
+        let last_bus = bus + (buses - 1) as u8;
+        let root_port = list.len() as u16;
+        list.push(
+            Record::new(1, NO_PARENT)
+                .buses(0, bus, last_bus)
+                .numbers(number as u8, number as u8)
+                .acs(0xFF7F, control)
+                .range(0, first, first + (window - 1)),
+        );
+        list.push(
+            Record::new(2, root_port)
+                .buses(bus, bus + 1, last_bus)
+                .range(0, first, first + (window - 1)),
+        );
+    }
+    let switches = 0..list.len();
+    for upstream in switches.skip(1).step_by(2) {
+        let above = list[upstream].clone();
+        for slot in 0..slots {
+            let bus = above.secondary + 1 + slot as u8;
+            let first = above.ranges[0].0 + MIB * slot as u64;
+            list.push(
+                Record::new(3, upstream as u16)
+                    .buses(above.secondary, bus, bus)
+                    .numbers(slot as u8, slot as u8)
+                    .acs(0xFF7F, control)
+                    .range(0, first, first + (MIB - 1)),
+            );
+        }
+    }
+    let ports = list.len();
+    for port in 0..ports {
+        let above = list[port].clone();
+        if above.kind == 3 {
+            let first = above.ranges[0].0;
+            list.push(
+                Record::new(4, port as u16)
+                    .buses(above.secondary, 0, 0)
+                    .range(0, first, first + 0xFFF),
+            );
+        }
+    }
+    Fabric::new(flags, list)
+}
+
+/// A comb: switches below each other, as many as fit in so many records (of 5 at
+/// least), each with an endpoint under its first port and the next switch under
+/// its second; under the last one's second port there is another endpoint.
+pub fn comb(records: usize, flags: u8, control: u16) -> Fabric {
+    let switches = (records - 2) / 4;
+    // Each level has a bus for the switch, one for each port, and what is below.
+    let last_bus = (1 + 3 * switches) as u8;
+    let mut list = vec![Record::new(1, NO_PARENT)
+        .buses(0, 1, last_bus)
+        .acs(0xFF7F, control)
+        .range(0, WINDOW.0, WINDOW.1)];
+    for level in 0..switches {
+        let port = list.len() as u16 - 1;
+        let bus = list[usize::from(port)].secondary;
+        let first = WINDOW.0 + MIB * level as u64;
+        let upstream = list.len() as u16;
+        list.push(
+            Record::new(2, port)
+                .buses(bus, bus + 1, last_bus)
+                .range(0, first, WINDOW.1),
+        );
+        list.push(
+            Record::new(3, upstream)
+                .buses(bus + 1, bus + 2, bus + 2)
+                .numbers(0, 0)
+                .acs(0xFF7F, control)
+                .range(0, first, first + (MIB - 1)),
+        );
+        list.push(
+            Record::new(4, upstream + 1)
+                .buses(bus + 2, 0, 0)
+                .range(0, first, first + 0xFFF),
+        );
+        list.push(
+            Record::new(3, upstream)
+                .buses(bus + 1, bus + 3, last_bus)
+                .numbers(1, 8)
+                .acs(0xFF7F, control)
+                .range(0, first + MIB, WINDOW.1),
+        );
+    }
+    let port = list.len() as u16 - 1;
+    let above = list[usize::from(port)].clone();
+    let first = above.ranges[0].0;
+    list.push(
+        Record::new(4, port)
+            .buses(above.secondary, 0, 0)
+            .range(0, first, first + 0xFFF),
+    );
+    Fabric::new(flags, list)
+}
+
+/// A wide switch with its ports in another order, and its endpoints in another.
+pub fn shuffled(mut fabric: Fabric, seed: u64) -> Fabric {
+    let mut random = Random::new(seed);
+    let mut order: Vec<usize> = (2..fabric.records.len()).collect();
+    random.shuffle(&mut order);
+    order.sort_by_key(|&index| fabric.records[index].kind);
+    let mut place: Vec<u16> = vec![0, 1];
+    place.resize(fabric.records.len(), 0);
+    for (new, &old) in order.iter().enumerate() {
+        place[old] = 2 + new as u16;
+    }
+    let mut list = fabric.records[..2].to_vec();
+    for old in order {
+        let mut record = fabric.records[old].clone();
+        record.parent = place[usize::from(record.parent)];
+        list.push(record);
+    }
+    fabric.records = list;
+    fabric
+}

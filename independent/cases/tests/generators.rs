@@ -7,7 +7,7 @@ use cases::batches::Batches;
 use cases::fabric::Fabric;
 use cases::queries::random_query;
 use cases::random::Random;
-use cases::shapes::{chain, random_fabric, roots, wide, with_endpoints};
+use cases::shapes::{chain, comb, random_fabric, roots, shuffled, slots, wide, with_endpoints};
 use model::Word;
 use model::ROOM;
 use model::{check, route};
@@ -37,9 +37,20 @@ fn extreme_fabrics_are_accepted() {
         wide(256, 0, 0x17),
         roots(255, 1, 0x14),
         with_endpoints(roots(128, 1, 0), 128),
+        slots(8, 15, 2, 0x17),
+        shuffled(wide(256, 2, 0x17), 1),
+        comb(256, 2, 0x17),
     ] {
         assert_eq!(check(&fabric.bytes(), fabric.until), 0);
     }
+}
+
+#[test]
+fn extreme_fabrics_are_as_large_as_fits() {
+    assert_eq!(slots(8, 15, 2, 0).records.len(), 256);
+    assert_eq!(shuffled(wide(256, 2, 0), 1).records.len(), 256);
+    // Four records a switch, and two for the ends.
+    assert_eq!(comb(256, 2, 0).records.len(), 254);
 }
 
 #[test]
