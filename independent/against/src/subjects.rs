@@ -4,7 +4,7 @@ use std::hint::black_box;
 
 use crate::library;
 use cases::fabric::{fabric_f, request, Fabric, WRITE};
-use cases::shapes::{chain, comb, shuffled, slots, wide};
+use cases::shapes::{by_kind, chain, comb, shuffled, slots, wide};
 use model::{HEAD, RECORD, ROOM};
 
 /// The chassis of the examples: four root ports, switches of twelve slots, two
@@ -29,6 +29,7 @@ pub fn subjects() -> Vec<Subject> {
         Subject::chassis(),
         Subject::new("Fabric F", fabric_f(FLAGS, CONTROL), 4, 0x8010_0000),
         Subject::slots(),
+        Subject::slots_by_kind(),
     ];
     list.extend([16, 32, 64, 128, 256].map(Subject::wide));
     list.push(Subject::shuffled());
@@ -67,6 +68,11 @@ impl Subject {
     fn slots() -> Subject {
         let fabric = slots(8, 15, FLAGS, CONTROL);
         Subject::first_to_last("8 switches of 15 slots", fabric)
+    }
+
+    fn slots_by_kind() -> Subject {
+        let fabric = by_kind(slots(8, 15, FLAGS, CONTROL));
+        Subject::first_to_last("8 switches, by kind", fabric)
     }
 
     /// From the first endpoint to the last, redirected.

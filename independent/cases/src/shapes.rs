@@ -608,58 +608,53 @@ pub fn with_endpoints(mut fabric: Fabric, count: usize) -> Fabric {
 }
 
 /// So many root ports with a switch each, and so many slots on each switch with
-/// an endpoint in each: `switches * (2 + 2 * slots)` records, the root ports and
-/// switches first, then the slots of all, then the endpoints.
+/// an endpoint in each: `switches * (2 + 2 * slots)` records, in the order in
+/// which they are found from the top, depth first.
 pub fn slots(switches: usize, slots: usize, flags: u8, control: u16) -> Fabric {
-    let buses = 2 + slots;
-    let window = MIB * slots as u64;
     let mut list = Vec::new();
     for number in 0..switches {
-        let bus = (1 + buses * number) as u8;
-        let first = WINDOW.0 + window * number as u64;
-        let last_bus = bus + (buses - 1) as u8;
-        let root_port = list.len() as u16;
-        list.push(
-            Record::new(1, NO_PARENT)
-                .buses(0, bus, last_bus)
-                .numbers(number as u8, number as u8)
-                .acs(0xFF7F, control)
-                .range(0, first, first + (window - 1)),
-        );
-        list.push(
-            Record::new(2, root_port)
-                .buses(bus, bus + 1, last_bus)
-                .range(0, first, first + (window - 1)),
-        );
-    }
-    let switches = 0..list.len();
-    for upstream in switches.skip(1).step_by(2) {
-        let above = list[upstream].clone();
-        for slot in 0..slots {
-            let bus = above.secondary + 1 + slot as u8;
-            let first = above.ranges[0].0 + MIB * slot as u64;
-            list.push(
-                Record::new(3, upstream as u16)
-                    .buses(above.secondary, bus, bus)
-                    .numbers(slot as u8, slot as u8)
-                    .acs(0xFF7F, control)
-                    .range(0, first, first + (MIB - 1)),
-            );
-        }
-    }
-    let ports = list.len();
-    for port in 0..ports {
-        let above = list[port].clone();
-        if above.kind == 3 {
-            let first = above.ranges[0].0;
-            list.push(
-                Record::new(4, port as u16)
-                    .buses(above.secondary, 0, 0)
-                    .range(0, first, first + 0xFFF),
-            );
-        }
+        add_switch(&mut list, number, slots, control);
     }
     Fabric::new(flags, list)
+}
+
+/// A root port, its switch, and the slots with their endpoints.
+fn add_switch(list: &mut Vec<Record>, number: usize, slots: usize, control: u16) {
+    let buses = 2 + slots;
+    let bus = (1 + buses * number) as u8;
+    let last_bus = bus + (buses - 1) as u8;
+    let first = WINDOW.0 + MIB * (slots * number) as u64;
+    let last = first + (MIB * slots as u64 - 1);
+    let root_port = list.len() as u16;
+    list.push(
+        Record::new(1, NO_PARENT)
+            .buses(0, bus, last_bus)
+            .numbers(number as u8, number as u8)
+            .acs(0xFF7F, control)
+            .range(0, first, last),
+    );
+    list.push(
+        Record::new(2, root_port)
+            .buses(bus, bus + 1, last_bus)
+            .range(0, first, last),
+    );
+    for slot in 0..slots {
+        let first = first + MIB * slot as u64;
+        let slot_bus = bus + 2 + slot as u8;
+        let port = list.len() as u16;
+        list.push(
+            Record::new(3, root_port + 1)
+                .buses(bus + 1, slot_bus, slot_bus)
+                .numbers(slot as u8, slot as u8)
+                .acs(0xFF7F, control)
+                .range(0, first, first + (MIB - 1)),
+        );
+        list.push(
+            Record::new(4, port)
+                .buses(slot_bus, 0, 0)
+                .range(0, first, first + 0xFFF),
+        );
+    }
 }
 
 /// A comb: switches below each other, as many as fit in so many records (of 5 at
@@ -714,23 +709,34 @@ pub fn comb(records: usize, flags: u8, control: u16) -> Fabric {
     Fabric::new(flags, list)
 }
 
-/// A wide switch with its ports in another order, and its endpoints in another.
-pub fn shuffled(mut fabric: Fabric, seed: u64) -> Fabric {
-    let mut random = Random::new(seed);
-    let mut order: Vec<usize> = (2..fabric.records.len()).collect();
-    random.shuffle(&mut order);
+/// The same fabric level by level: root ports, switches, their ports, endpoints.
+pub fn by_kind(fabric: Fabric) -> Fabric {
+    let mut order: Vec<usize> = (0..fabric.records.len()).collect();
     order.sort_by_key(|&index| fabric.records[index].kind);
-    let mut place: Vec<u16> = vec![0, 1];
-    place.resize(fabric.records.len(), 0);
+    reordered(fabric, &order)
+}
+
+/// The same, with the records of each kind in another order.
+pub fn shuffled(fabric: Fabric, seed: u64) -> Fabric {
+    let mut order: Vec<usize> = (0..fabric.records.len()).collect();
+    Random::new(seed).shuffle(&mut order);
+    order.sort_by_key(|&index| fabric.records[index].kind);
+    reordered(fabric, &order)
+}
+
+/// The records in another order, in which parents still come first.
+fn reordered(mut fabric: Fabric, order: &[usize]) -> Fabric {
+    let mut place = vec![0; order.len()];
     for (new, &old) in order.iter().enumerate() {
-        place[old] = 2 + new as u16;
+        place[old] = new as u16;
     }
-    let mut list = fabric.records[..2].to_vec();
-    for old in order {
+    let moved = order.iter().map(|&old| {
         let mut record = fabric.records[old].clone();
-        record.parent = place[usize::from(record.parent)];
-        list.push(record);
-    }
-    fabric.records = list;
+        if record.parent != NO_PARENT {
+            record.parent = place[usize::from(record.parent)];
+        }
+        record
+    });
+    fabric.records = moved.collect();
     fabric
 }

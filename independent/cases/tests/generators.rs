@@ -7,7 +7,8 @@ use cases::batches::Batches;
 use cases::fabric::Fabric;
 use cases::queries::random_query;
 use cases::random::Random;
-use cases::shapes::{chain, comb, random_fabric, roots, shuffled, slots, wide, with_endpoints};
+use cases::shapes::{by_kind, chain, comb, random_fabric, roots};
+use cases::shapes::{shuffled, slots, wide, with_endpoints};
 use model::Word;
 use model::ROOM;
 use model::{check, route};
@@ -38,6 +39,7 @@ fn extreme_fabrics_are_accepted() {
         roots(255, 1, 0x14),
         with_endpoints(roots(128, 1, 0), 128),
         slots(8, 15, 2, 0x17),
+        by_kind(slots(8, 15, 2, 0x17)),
         shuffled(wide(256, 2, 0x17), 1),
         comb(256, 2, 0x17),
     ] {
