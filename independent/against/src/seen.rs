@@ -8,10 +8,13 @@ use cases::batches::{Ask, Batch};
 /// Bytes before and after the lent part of a buffer that nobody may touch.
 const CANARY: usize = 32;
 
+type Check = fn(&[u8], u64) -> u64;
+type Route = fn(&[u8], u64, u16, &[u8], &mut [u8]) -> u64;
+
 /// The calls of the library, of the model or of a copy of it.
 pub struct Calls {
-    pub check: fn(&[u8], u64) -> u64,
-    pub route: fn(&[u8], u64, u16, &[u8], &mut [u8]) -> u64,
+    pub check: Check,
+    pub route: Route,
 }
 
 /// The calls that a crate or module has.
