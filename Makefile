@@ -40,7 +40,9 @@ endif
 
 SNAPSHOTS := examples/snapshots
 INDEPENDENT := --release --offline --manifest-path independent/Cargo.toml
-AGAINST = ACS_LIB='$(abspath $(dir $(ACS_LIB)))' $(CARGO_ENV) $(CARGO) run $(INDEPENDENT) -p against
+WITH_LIB = ACS_LIB='$(abspath $(dir $(ACS_LIB)))' $(CARGO_ENV) $(CARGO)
+AGAINST = $(WITH_LIB) run $(INDEPENDENT) -p against
+FAULTS := independent/target/faults
 SEEDED = $(if $(SEED),--seed $(SEED)) $(if $(CASES),--cases $(CASES))
 
 .DELETE_ON_ERROR:
@@ -59,6 +61,7 @@ help:
 	@echo 'make compare     the library against the independent program (SEED=S CASES=N)'
 	@echo 'make faults      that the comparison notices each deliberate fault (SEED=S CASES=N)'
 	@echo 'make bench       the library beside the independent program, timed'
+	@echo 'make instructions  the same, counted in instructions (needs valgrind)'
 	@echo 'make stack       how much stack the two calls need'
 	@echo 'make symbols     what the archive defines and needs, and that it has no memory of its own'
 	@echo 'make corpus      write the cases of crates/acscases anew'
@@ -157,13 +160,19 @@ compare: $(ACS_LIB)
 	$(AGAINST) --bin compare -- $(SEEDED)
 
 faults: $(ACS_LIB)
-	$(AGAINST) --bin compare -- --faults $(SEEDED)
+	$(CARGO) run $(INDEPENDENT) -p apply -- independent/faults independent $(FAULTS)
+	$(WITH_LIB) build -q --keep-going --release --offline --manifest-path $(FAULTS)/Cargo.toml
+	$(WITH_LIB) run -q --release --offline --manifest-path $(FAULTS)/Cargo.toml -- $(SEEDED)
 
 bench: $(ACS_LIB)
 	$(AGAINST) --bin bench
 
+.PHONY: instructions
+instructions: $(ACS_LIB)
+	$(AGAINST) --bin instructions
+
 corpus:
-	$(CARGO) run $(INDEPENDENT) -p model --bin corpus -- crates/acscases
+	$(CARGO) run $(INDEPENDENT) -p cases --bin corpus -- crates/acscases
 
 snapshots:
 	$(PYTHON) tools/make_snapshots.py

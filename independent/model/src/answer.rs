@@ -12,6 +12,15 @@ impl Refusal {
         Refusal { number, index }
     }
 
+    /// The refusal of that number, with index 0, unless the test passed.
+    pub fn unless(number: u8, passed: bool) -> Result<(), Refusal> {
+        if passed {
+            Ok(())
+        } else {
+            Err(Refusal::new(number, 0))
+        }
+    }
+
     pub fn word(self) -> u64 {
         REFUSED | u64::from(self.number) << 8 | u64::from(self.index) << 16
     }

@@ -1,7 +1,6 @@
 //! Reading a TLP header.
 
 use crate::bytes::{be32, be64};
-use crate::faults::{Fault, Rules};
 
 /// What routing needs to know of a TLP.
 #[derive(Clone, Copy, Debug)]
@@ -16,10 +15,6 @@ pub struct Request {
     pub requester_bus: u8,
     pub address_type: u8,
     pub address: u64,
-    /// In bytes. Covering looks at the first address only, so only a fault asks for it.
-    pub length: u64,
-    /// Whether the header has 16 bytes. Only a fault asks for it.
-    pub long: bool,
 }
 
 #[derive(Clone, Copy, Debug)]
@@ -27,101 +22,87 @@ pub struct Completion {
     pub relaxed_ordering: bool,
     pub bus: u8,
     pub device_function: u8,
-    /// Fields of requests, which only faults look at in a completion.
-    pub bus_in_byte_four: u8,
-    pub address_type: u8,
 }
 
+/// The address types: 1 is a translation request, 3 is reserved.
+pub const UNTRANSLATED: u8 = 0;
 pub const TRANSLATED: u8 = 2;
 
+/// What byte 0 says.
+enum Form {
+    Request { write: bool, long: bool },
+    Completion,
+}
+
 /// Reads a header, or gives nothing if it is bad.
-pub fn read<R: Rules>(rules: R, bytes: &[u8]) -> Option<Tlp> {
-    let (length, write, completion) = match bytes.first()? {
-        0x00 => (12, false, false),
-        0x40 => (12, true, false),
-        0x20 => (16, false, false),
-        0x60 => (16, true, false),
-        0x0A if rules.wrong(Fault::CompletionWithoutDataRefused) => return None,
-        0x0A | 0x4A => (12, false, true),
-        0x01 if rules.wrong(Fault::LockedReadTaken) => (12, false, false),
-        _ => return None,
-    };
-    let length_right =
-        bytes.len() == length || rules.wrong(Fault::LongerHeaderTaken) && bytes.len() > length;
-    if !length_right {
+pub fn read(bytes: &[u8]) -> Option<Tlp> {
+    let (form, length) = form_and_length(*bytes.first()?)?;
+    if bytes.len() != length {
         return None;
     }
-    if completion {
-        read_completion(rules, bytes)
-    } else {
-        read_request(rules, bytes, length == 16, write)
+    match form {
+        Form::Request { write, long } => read_request(bytes, write, long),
+        Form::Completion => Some(read_completion(bytes)),
     }
 }
 
-fn read_request<R: Rules>(rules: R, bytes: &[u8], long: bool, write: bool) -> Option<Tlp> {
-    let address = if long {
-        let address = be64(bytes, 8);
-        if rules.wrong(Fault::LowAddressInLongRefused) && address < 1 << 32 {
-            return None;
-        }
-        rules.choose(Fault::HighAddressIgnored, address, address & 0xFFFF_FFFF)
-    } else {
-        u64::from(be32(bytes, 8))
-    };
-    let address = rules.choose(Fault::AddressLowBits, address & !3, address);
-    let length = length_in_bytes(rules, bytes);
-    if crosses(rules, address, length) {
+/// Byte 0: 00h and 40h, read and write with 12-byte header; 20h and 60h with
+/// 16; 0Ah and 4Ah, completions with 12.
+fn form_and_length(byte: u8) -> Option<(Form, usize)> {
+    let request = |write, long| Form::Request { write, long };
+    match byte {
+        0x00 => Some((request(false, false), 12)),
+        0x40 => Some((request(true, false), 12)),
+        0x20 => Some((request(false, true), 16)),
+        0x60 => Some((request(true, true), 16)),
+        0x0A | 0x4A => Some((Form::Completion, 12)),
+        _ => None,
+    }
+}
+
+/// A request whose address mod 4,096 plus length in bytes exceeds 4,096 is bad.
+fn read_request(bytes: &[u8], write: bool, long: bool) -> Option<Tlp> {
+    let address = address(bytes, long);
+    if address % 4096 + length_in_bytes(bytes) > 4096 {
         return None;
     }
     Some(Tlp::Request(Request {
         write,
-        requester_bus: rules.choose(Fault::RequesterFromByteFive, bytes[4], bytes[5]),
+        requester_bus: bytes[4],
         address_type: address_type(bytes),
         address,
-        length,
-        long,
     }))
 }
 
-fn read_completion<R: Rules>(rules: R, bytes: &[u8]) -> Option<Tlp> {
-    if rules.wrong(Fault::CrossingOfCompletions) {
-        let address = u64::from(be32(bytes, 8)) & !3;
-        if crosses(rules, address, length_in_bytes(rules, bytes)) {
-            return None;
-        }
-    }
-    let relaxed_bit = rules.choose(Fault::RelaxedFromBitFour, 5, 4);
-    let (bus, device_function) = if rules.wrong(Fault::IdSwapped) {
-        (bytes[9], bytes[8])
-    } else if rules.wrong(Fault::IdFromRequester) {
-        (bytes[4], bytes[5])
+/// Bytes 8-11 or 8-15, big-endian, low two bits taken as 0.
+fn address(bytes: &[u8], long: bool) -> u64 {
+    let address = if long {
+        be64(bytes, 8)
     } else {
-        (bytes[8], bytes[9])
+        u64::from(be32(bytes, 8))
     };
-    Some(Tlp::Completion(Completion {
-        relaxed_ordering: bytes[2] >> relaxed_bit & 1 == 1,
-        bus,
-        device_function,
-        bus_in_byte_four: bytes[4],
-        address_type: address_type(bytes),
-    }))
+    address & !3
 }
 
+/// Byte 2, bits 3:2.
 fn address_type(bytes: &[u8]) -> u8 {
     bytes[2] >> 2 & 3
 }
 
-fn length_in_bytes<R: Rules>(rules: R, bytes: &[u8]) -> u64 {
-    let high = rules.choose(Fault::LengthHighIgnored, bytes[2] & 3, 0);
-    let doublewords = match u64::from(high) << 8 | u64::from(bytes[3]) {
-        0 => rules.choose(Fault::LengthZeroIsZero, 1024, 0),
+/// Byte 2, bits 1:0, and byte 3: the length in doublewords, 0 meaning 1,024.
+fn length_in_bytes(bytes: &[u8]) -> u64 {
+    let doublewords = match u64::from(bytes[2] & 3) << 8 | u64::from(bytes[3]) {
+        0 => 1024,
         doublewords => doublewords,
     };
     4 * doublewords
 }
 
-fn crosses<R: Rules>(rules: R, address: u64, length: u64) -> bool {
-    let end = address % 4096 + length;
-    let most = rules.choose(Fault::CrossingOffByOne, 4096, 4095);
-    end > most && !rules.wrong(Fault::CrossingNotTested)
+/// A completion goes to the ID in bytes 8-9, bus first.
+fn read_completion(bytes: &[u8]) -> Tlp {
+    Tlp::Completion(Completion {
+        relaxed_ordering: bytes[2] >> 5 & 1 == 1,
+        bus: bytes[8],
+        device_function: bytes[9],
+    })
 }

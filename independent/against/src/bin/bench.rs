@@ -1,58 +1,15 @@
-//! Times the proved library beside the independent model, from the bytes to
-//! the answer: same inputs, one run, taking turns. A report, not a test.
+//! Times the proved library beside the model, from the bytes to the answer: same
+//! inputs, one run, taking turns. A report, not a test.
 
 use std::hint::black_box;
 use std::time::Instant;
 
-use model::answer::Word;
-use model::cases::ROOM;
-use model::fabric::{fabric_f, request, Fabric, WRITE};
-use model::shapes::{chain, wide};
+use against::subjects::{subjects, Subject};
+use model::Word;
 
-const NOW: u64 = 1500;
 const ROUNDS: usize = 60;
 /// How long one turn lasts, about.
 const TURN_NANOSECONDS: u128 = 500_000;
-
-struct Subject {
-    name: &'static str,
-    snapshot: Vec<u8>,
-    records: usize,
-    origin: u16,
-    header: Vec<u8>,
-}
-
-impl Subject {
-    fn new(name: &'static str, fabric: Fabric, origin: u16, address: u64) -> Subject {
-        let requester = u16::from(fabric.record(origin).own_bus) << 8;
-        Subject {
-            name,
-            snapshot: fabric.bytes(),
-            records: fabric.records.len(),
-            origin,
-            header: request(WRITE, requester, 0, address, 1),
-        }
-    }
-
-    /// A switch: from the first endpoint to the last, redirected.
-    fn wide(records: usize) -> Subject {
-        let ports = (records - 2) / 2;
-        let peer = 0x8000_0000 + ((ports as u64 - 1) << 20);
-        Subject::new(
-            "wide switch",
-            wide(records, 2, 0x17),
-            2 + ports as u16,
-            peer,
-        )
-    }
-
-    /// A line of switches: from the endpoint at its end to itself.
-    fn chain(records: usize) -> Subject {
-        let fabric = chain(records, 2, 0x17);
-        let last = fabric.records.len() as u16 - 1;
-        Subject::new("deepest chain", fabric, last, 0x8000_0000)
-    }
-}
 
 /// Nanoseconds per call of the library and of the model.
 #[derive(Clone, Copy)]
@@ -61,87 +18,67 @@ struct Times {
     model: f64,
 }
 
+/// The times of a subject.
+struct Row<'a> {
+    subject: &'a Subject,
+    check: Times,
+    route: Times,
+}
+
 fn main() {
-    let mut subjects = vec![Subject::new("Fabric F", fabric_f(2, 0x17), 4, 0x8010_0000)];
-    subjects.extend([16, 32, 64, 128, 256].map(Subject::wide));
-    subjects.extend([16, 32, 64, 128, 256].map(Subject::chain));
+    let subjects = subjects();
     println!(
-        "{:<14} {:>7} {:>5}  {:<5} {:>12} {:>12} {:>7}",
+        "{:<22} {:>7} {:>5}  {:<5} {:>12} {:>12} {:>7}",
         "fabric", "records", "hops", "call", "library ns", "model ns", "ratio"
     );
-    let mut growth = Vec::new();
-    for subject in &subjects {
-        let hops = Word(library_route(subject)).hops();
-        let check = time(|| library_check(subject), || model_check(subject));
-        let route = time(|| library_route(subject), || model_route(subject));
-        for (call, times) in [("check", check), ("route", route)] {
-            println!(
-                "{:<14} {:>7} {:>5}  {:<5} {:>12.0} {:>12.0} {:>7.2}",
-                subject.name,
-                subject.records,
-                hops,
-                call,
-                times.library,
-                times.model,
-                times.library / times.model
-            );
-        }
-        growth.push((subject, check, route));
-    }
+    let rows: Vec<Row> = subjects.iter().map(measure).collect();
     println!();
     println!("growth from 64 to 256 records (4 times as many):");
     for name in ["wide switch", "deepest chain"] {
-        let find = |records| {
-            growth
-                .iter()
-                .find(|(s, ..)| s.name == name && s.records == records)
-        };
-        if let (Some((_, check64, route64)), Some((_, check256, route256))) = (find(64), find(256))
-        {
-            for (call, small, large) in [("check", check64, check256), ("route", route64, route256)]
-            {
-                println!(
-                    "{name:<14} {call:<5}  library {:.1} times, model {:.1} times",
-                    large.library / small.library,
-                    large.model / small.model
-                );
-            }
-        }
+        growth(&rows, name);
     }
 }
 
-fn library_check(subject: &Subject) -> u64 {
-    against::check(black_box(&subject.snapshot), NOW)
+fn measure(subject: &Subject) -> Row<'_> {
+    let check = time(|| subject.library_check(), || subject.model_check());
+    let route = time(|| subject.library_route(), || subject.model_route());
+    for (call, times) in [("check", check), ("route", route)] {
+        println!(
+            "{:<22} {:>7} {:>5}  {:<5} {:>12.0} {:>12.0} {:>7.2}",
+            subject.name,
+            subject.records(),
+            Word(subject.model_route()).hops(),
+            call,
+            times.library,
+            times.model,
+            times.library / times.model
+        );
+    }
+    Row {
+        subject,
+        check,
+        route,
+    }
 }
 
-fn model_check(subject: &Subject) -> u64 {
-    model::check(black_box(&subject.snapshot), NOW)
-}
-
-fn library_route(subject: &Subject) -> u64 {
-    let mut hops = [0; ROOM];
-    let word = against::route(
-        black_box(&subject.snapshot),
-        NOW,
-        subject.origin,
-        &subject.header,
-        &mut hops,
-    );
-    black_box(hops);
-    word
-}
-
-fn model_route(subject: &Subject) -> u64 {
-    let mut hops = [0; ROOM];
-    let word = model::route(
-        black_box(&subject.snapshot),
-        NOW,
-        subject.origin,
-        &subject.header,
-        &mut hops,
-    );
-    black_box(hops);
-    word
+fn growth(rows: &[Row], name: &str) {
+    let find = |records| {
+        let mut rows = rows.iter();
+        rows.find(|row| row.subject.name == name && row.subject.records() == records)
+    };
+    let (Some(small), Some(large)) = (find(64), find(256)) else {
+        return;
+    };
+    for (call, small, large) in [
+        ("check", small.check, large.check),
+        ("route", small.route, large.route),
+    ] {
+        println!(
+            "{name:<22} {call:<5}  library {:.1} times, model {:.1} times",
+            large.library / small.library,
+            large.model / small.model
+        );
+    }
 }
 
 /// The quickest of many short turns, library and model in turn: what else runs

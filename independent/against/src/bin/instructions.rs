@@ -1,0 +1,93 @@
+//! Counts the instructions of a call with callgrind, for the library and for the
+//! model: a count is the same on every run, while times vary on a shared machine.
+//!
+//! `instructions` runs itself under valgrind for each row, twice with different
+//! numbers of calls; the difference is what the further calls took.
+//! `instructions ROW CALLS check|route library|model` makes so many calls of one.
+
+use std::hint::black_box;
+use std::process::{Command, ExitCode};
+
+use against::subjects::{subjects, Subject};
+use model::Word;
+
+/// Calls in the shorter run and in the longer one.
+const FEW: u64 = 10;
+const MORE: u64 = 20;
+
+fn main() -> ExitCode {
+    let arguments: Vec<String> = std::env::args().skip(1).collect();
+    let result = match &arguments[..] {
+        [] => count_all(),
+        [row, calls, call, whose] => call_often(row, calls, call, whose),
+        _ => Err("usage: instructions [ROW CALLS check|route library|model]".to_string()),
+    };
+    match result {
+        Ok(()) => ExitCode::SUCCESS,
+        Err(error) => {
+            eprintln!("instructions: {error}");
+            ExitCode::from(2)
+        }
+    }
+}
+
+fn call_often(row: &str, calls: &str, call: &str, whose: &str) -> Result<(), String> {
+    let subjects = subjects();
+    let subject = row.parse().ok().and_then(|row: usize| subjects.get(row));
+    let subject = subject.ok_or(format!("no row {row}"))?;
+    let calls: u64 = calls.parse().map_err(|_| format!("no number: {calls}"))?;
+    let call: fn(&Subject) -> u64 = match (call, whose) {
+        ("check", "library") => Subject::library_check,
+        ("check", "model") => Subject::model_check,
+        ("route", "library") => Subject::library_route,
+        ("route", "model") => Subject::model_route,
+        _ => return Err(format!("no call {call} of {whose}")),
+    };
+    for _ in 0..calls {
+        black_box(call(subject));
+    }
+    Ok(())
+}
+
+fn count_all() -> Result<(), String> {
+    println!(
+        "{:<22} {:>7} {:>5}  {:<5} {:>12} {:>12} {:>7}",
+        "fabric", "records", "hops", "call", "library", "model", "ratio"
+    );
+    for (row, subject) in subjects().iter().enumerate() {
+        for call in ["check", "route"] {
+            let library = count(row, call, "library")?;
+            let model = count(row, call, "model")?;
+            println!(
+                "{:<22} {:>7} {:>5}  {call:<5} {library:>12} {model:>12} {:>7.2}",
+                subject.name,
+                subject.records(),
+                Word(subject.model_route()).hops(),
+                library as f64 / model as f64
+            );
+        }
+    }
+    Ok(())
+}
+
+/// Instructions per call.
+fn count(row: usize, call: &str, whose: &str) -> Result<u64, String> {
+    let few = instructions(row, FEW, call, whose)?;
+    let more = instructions(row, MORE, call, whose)?;
+    Ok((more - few) / (MORE - FEW))
+}
+
+/// All instructions of a run that makes so many calls.
+fn instructions(row: usize, calls: u64, call: &str, whose: &str) -> Result<u64, String> {
+    let program = std::env::current_exe().map_err(|error| error.to_string())?;
+    let output = Command::new("valgrind")
+        .args(["--tool=callgrind", "--callgrind-out-file=/dev/null"])
+        .arg(program)
+        .args([&row.to_string(), &calls.to_string(), call, whose])
+        .output()
+        .map_err(|error| format!("valgrind: {error}"))?;
+    let text = String::from_utf8_lossy(&output.stderr);
+    let collected = text.lines().find_map(|line| line.split_once("Collected :"));
+    let collected = collected.and_then(|(_, number)| number.trim().parse().ok());
+    collected.ok_or(format!("valgrind says\n{text}"))
+}

@@ -1,0 +1,17 @@
+//! Cases to compare the model and the library by.
+//!
+//! - `fabric`: snapshots and headers built field by field;
+//! - `shapes`, `damage`, `queries`: random and extreme snapshots, broken ones,
+//!   and what is asked of them, all from `random`;
+//! - `batches`: an endless row of cases;
+//! - `corpus`: the fixed cases of the gate;
+//! - `stream`: the format of many `acsroute` inputs in a row.
+
+pub mod batches;
+pub mod corpus;
+pub mod damage;
+pub mod fabric;
+pub mod queries;
+pub mod random;
+pub mod shapes;
+pub mod stream;

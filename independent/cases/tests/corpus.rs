@@ -1,0 +1,16 @@
+//! The corpus stays as it is. (That its answers notice the deliberate faults is
+//! part of `make faults`.)
+
+use cases::corpus::items;
+use model::acsroute;
+
+#[test]
+fn corpus_is_always_the_same_and_below_two_megabytes() {
+    let items = items();
+    assert_eq!(items, cases::corpus::items());
+    let bytes: usize = items
+        .iter()
+        .map(|item| 4 + item.len() + acsroute(item).len())
+        .sum();
+    assert!(bytes < 2_000_000, "{bytes} bytes");
+}

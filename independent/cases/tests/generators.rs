@@ -1,0 +1,133 @@
+//! The generators give what they promise: right fabrics that are accepted, and
+//! cases in which every outcome and every refusal comes up.
+
+use std::collections::BTreeMap;
+
+use cases::batches::Batches;
+use cases::fabric::Fabric;
+use cases::queries::random_query;
+use cases::random::Random;
+use cases::shapes::{by_kind, chain, comb, random_fabric, roots};
+use cases::shapes::{shuffled, slots, wide, with_endpoints};
+use model::Word;
+use model::ROOM;
+use model::{check, route};
+
+#[test]
+fn random_fabrics_are_accepted() {
+    let mut random = Random::new(7);
+    for records in (0..60).chain([100, 200, 256]) {
+        for _ in 0..20 {
+            let fabric = random_fabric(&mut random, records);
+            assert_eq!(
+                Word(check(&fabric.bytes(), fabric.taken)),
+                Word(0),
+                "{fabric:?}"
+            );
+        }
+    }
+}
+
+#[test]
+fn extreme_fabrics_are_accepted() {
+    for fabric in [
+        chain(2, 0, 0),
+        chain(7, 0, 0),
+        chain(256, 0, 0x1F),
+        wide(64, 3, 0x3F),
+        wide(256, 0, 0x17),
+        roots(255, 1, 0x14),
+        with_endpoints(roots(128, 1, 0), 128),
+        slots(8, 15, 2, 0x17),
+        by_kind(slots(8, 15, 2, 0x17)),
+        shuffled(wide(256, 2, 0x17), 1),
+        comb(256, 2, 0x17),
+    ] {
+        assert_eq!(check(&fabric.bytes(), fabric.until), 0);
+    }
+}
+
+#[test]
+fn extreme_fabrics_are_as_large_as_fits() {
+    assert_eq!(slots(8, 15, 2, 0).records.len(), 256);
+    assert_eq!(shuffled(wide(256, 2, 0), 1).records.len(), 256);
+    // Four records a switch, and two for the ends.
+    assert_eq!(comb(256, 2, 0).records.len(), 254);
+}
+
+#[test]
+fn deepest_chain_makes_257_hops() {
+    let fabric = chain(256, 2, 0x14);
+    let header = cases::fabric::request(0x40, 0, 0, 0x8000_0000, 1);
+    let mut buffer = [0; ROOM];
+    let word = Word(route(&fabric.bytes(), 1500, 255, &header, &mut buffer));
+    assert_eq!((word.byte(0), word.node(), word.hops()), (1, 255, 257));
+}
+
+#[test]
+fn cases_have_every_outcome() {
+    let mut seen: BTreeMap<(u8, u8, bool), usize> = BTreeMap::new();
+    for batch in Batches::new(1).take(3000) {
+        for ask in batch.asks {
+            let mut buffer = vec![0; ask.buffer];
+            let word = Word(route(
+                &batch.snapshot,
+                batch.now,
+                ask.origin,
+                &ask.header,
+                &mut buffer,
+            ));
+            let completion = !word.refused() && ask.header[0] & 0x0F == 0x0A;
+            *seen
+                .entry((word.byte(0), word.byte(1), completion))
+                .or_default() += 1;
+        }
+    }
+    println!("{seen:?}");
+    for refusal in 1..=7 {
+        assert!(seen.contains_key(&(6, refusal, false)), "refusal {refusal}");
+    }
+    for letter in [0, 1, 5, 7] {
+        assert!(seen.contains_key(&(5, letter, false)), "violation {letter}");
+    }
+    for kind in 0..=4 {
+        for completion in [false, true] {
+            assert!(
+                seen.contains_key(&(kind, 0, completion)),
+                "kind {kind} {completion}"
+            );
+        }
+    }
+}
+
+/// The most ports on the way from any record up to the root complex.
+fn most_ports(fabric: &Fabric) -> usize {
+    let mut ports: Vec<usize> = Vec::new();
+    for record in &fabric.records {
+        let above = ports.get(usize::from(record.parent)).copied().unwrap_or(0);
+        ports.push(above + usize::from(record.is_port()));
+    }
+    ports.into_iter().max().unwrap_or(0)
+}
+
+#[test]
+fn hops_keep_their_bound() {
+    let mut random = Random::new(11);
+    for round in 0..2000 {
+        let fabric = random_fabric(&mut random, 2 + round % 30);
+        let bytes = fabric.bytes();
+        let bound = 2 * most_ports(&fabric) + 1;
+        for _ in 0..10 {
+            let query = random_query(&mut random, &fabric);
+            let mut buffer = [0; ROOM];
+            let word = Word(route(
+                &bytes,
+                fabric.taken,
+                query.origin,
+                &query.header,
+                &mut buffer,
+            ));
+            assert!(query.origin == 0xFFFF || word.hops() <= bound);
+        }
+    }
+}

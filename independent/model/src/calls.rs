@@ -1,0 +1,4 @@
+//! The calls of the C interface, from bytes to the answer word.
+
+pub mod check;
+pub mod route;
