@@ -34,7 +34,9 @@ const char usage[] =
     "  12  reaches the host\n"
     "  13  unclaimed\n"
     "  14  undefined\n"
-    "  15  violation\n";
+    "  15  violation\n"
+    "\n"
+    "Rules that are cited, as U4 or R5, are those of docs/RULES.md.\n";
 
 static int fail(const char *what, const char *word)
 {

@@ -185,6 +185,17 @@ static void print_deciders(FILE *out, const struct asked *asked)
 
 /* ---- What an answer rests on ---- */
 
+/* The TLP header that was asked about, byte by byte. */
+static void print_header(FILE *out, const struct query *query)
+{
+    uint8_t header[ACS_HEADER_ROOM];
+    size_t length = query_header(query, header);
+    fprintf(out, "  TLP header  ");
+    for (size_t i = 0; i < length; i++)
+        fprintf(out, "%s%02X", i % 4 == 0 ? " " : "", header[i]);
+    fprintf(out, "\n");
+}
+
 static void print_file(FILE *out, const struct asked *asked)
 {
     char digest[65];
@@ -209,12 +220,14 @@ void print_evidence(FILE *out, const struct asked *asked)
         fprintf(out, "  good until   %s\n", time_words(words, snapshot_until(snapshot)));
     }
     fprintf(out, "  asked as of  %s\n", time_words(words, asked->now));
+    if (asked->query != NULL)
+        print_header(out, asked->query);
     if (refusal == ACS_REFUSAL_NONE)
         fprintf(out, "  flags        %02Xh: %s\n", snapshot_flags(snapshot),
                 flags_words(words, snapshot_flags(snapshot)));
     if (refusal == ACS_REFUSAL_NONE && asked->query != NULL)
         print_deciders(out, asked);
-    fprintf(out, "  library      acs %s; the rules are those of docs/RULES.md\n", ACS_VERSION);
+    fprintf(out, "  library      acs %s (of acs.h); the rules are those of docs/RULES.md\n", ACS_VERSION);
     if (asked->query != NULL || refusal != ACS_REFUSAL_NONE)
         fprintf(out, "  in one line  %s\n",
                 answer_line(line, sizeof line, asked->answer, asked->hops));

@@ -8,7 +8,8 @@
  *
  * docs/INTERFACE.md has the layouts and the calls in full, docs/RULES.md every
  * rule by which a snapshot is accepted and a TLP is routed, with its number;
- * acs(3) is the manual page. `make install` installs all three.
+ * acs(3) is the manual page. `make install` installs all three, the pages in
+ * share/doc/acs.
  *
  * Before version 1.0 calls may change with ACS_VERSION_MINOR (INTERFACE.md,
  * "What is stable").
@@ -345,7 +346,7 @@ static inline const char *acs_address_type_name(enum acs_address_type type)
 
 /* ---- Writing a TLP header ----------------------------------------------- */
 
-/* An ID from bus, device (0 to 31) and function (0 to 7). */
+/* An ID from bus (0 to 255), device (0 to 31) and function (0 to 7). */
 static inline uint16_t acs_id(unsigned bus, unsigned device, unsigned function)
 {
     return (uint16_t)((bus & 0xFFu) << 8 | (device & 0x1Fu) << 3 | (function & 7u));
@@ -369,7 +370,7 @@ static inline size_t acs_request_header(uint8_t *header, enum acs_tlp tlp, uint6
     unsigned first = (unsigned)tlp | (address >> 32 != 0 ? 0x20u : 0u);
     size_t length = (first & 0x20u) != 0 ? 16 : 12;
     size_t i;
-    if ((first & ~0x60u) != 0 || doublewords < 1 || doublewords > 1024 || (unsigned)type > 3)
+    if ((first & ~0x60u) != 0 || doublewords < 1 || doublewords > ACS_DOUBLEWORDS_MOST || (unsigned)type > 3)
         return 0;
     header[0] = (uint8_t)first;
     header[1] = 0;

@@ -5,6 +5,7 @@ for words in "file         $f, 888 bytes" "SHA-256      $(sha256sum < "$f" | cut
     'taken        1704067200 (2024-01-01 00:00:00 UTC)' \
     'good until   4102444800 (2100-01-01 00:00:00 UTC)' \
     'asked as of  2000000000 (2033-05-18 03:33:20 UTC)' \
+    'TLP header   40000001 0300000F 80100000' \
     'flags        02h: root ports may not reach each other; redirected requests are reflected' \
     "library      acs $version" \
     'in one line  delivered 5 checked 2:2 0:5 0:6 3:6 5:7'; do

@@ -25,6 +25,13 @@ fi
 says 0 '' $CC -std=c99 -Wall -Wextra -Wpedantic -Werror -o "$folder/example" "$folder/example.c" $flags
 # shellcheck disable=SC2086
 says 0 'refused' $run "$folder/example"
+if [ "$CC" = gcc ] && command -v g++ > /dev/null; then
+    # shellcheck disable=SC2086
+    says 0 '' g++ -std=c++98 -Wall -Wextra -Wpedantic -Werror -o "$folder/example++" \
+        -x c++ "$folder/example.c" -x none $flags
+    # shellcheck disable=SC2086
+    says 0 'refused' $run "$folder/example++"
+fi
 # The page of a call leads to the manual page.
 if command -v groff > /dev/null; then
     call_page() { (cd "$root/share/man" && groff -man -Tascii -P-cbou man3/acs_route.3); }

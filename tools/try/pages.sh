@@ -1,13 +1,15 @@
 # The pages: what they promise, that they agree with the header, and that what
 # they point to is there.
 
-# Each function of the header stands in the manual page; each call in INTERFACE.
+# Each function of the header stands in the manual page; each call in INTERFACE and
+# in README's table.
 for name in $(sed -n -e 's/^static inline .*[ *]\(acs_[a-z_]*\)(.*/\1/p' \
     -e 's/^uint64_t \(acs_[a-z_]*\)(.*/\1/p' include/acs.h); do
     has docs/acs.3 "$name"
 done
 for name in $(sed -n 's/^uint64_t \(acs_[a-z_]*\)(.*/\1/p' include/acs.h); do
     has docs/INTERFACE.md "uint64_t $name("
+    has README.md "| \`$name\` |"
 done
 # Each enum too, by its name.
 for name in $(sed -n 's/^enum \(acs_[a-z_]*\) {/\1/p' include/acs.h); do
