@@ -85,7 +85,7 @@ static const char titles[] =
     "record  kind             ID       under  buses  Port  Capability  Control"
     "              ranges, vector\n";
 
-void print_record(FILE *out, const struct snapshot *snapshot, unsigned index)
+static void print_row(FILE *out, const struct snapshot *snapshot, unsigned index)
 {
     const uint8_t *record = snapshot_record(snapshot, index);
     char id[16];
@@ -107,7 +107,16 @@ void print_records(FILE *out, const struct snapshot *snapshot)
 {
     fputs(titles, out);
     for (unsigned index = 0; index < snapshot_count(snapshot); index++)
-        print_record(out, snapshot, index);
+        print_row(out, snapshot, index);
+}
+
+void print_record(FILE *out, const struct snapshot *snapshot, unsigned index)
+{
+    unsigned parent = record_parent(snapshot_record(snapshot, index));
+    fputs(titles, out);
+    if (parent < index)
+        print_row(out, snapshot, parent);
+    print_row(out, snapshot, index);
 }
 
 /* ---- What decided at a port ---- */
@@ -156,7 +165,19 @@ static void print_step(FILE *out, const struct asked *asked, unsigned index, int
         fprintf(out, "U5: no port of this switch covers the %s", what);
 }
 
-/* One line for each port that the TLP entered from below: only those decide. */
+/* What a root port leaves to the root complex, which goes by the snapshot's flags. */
+static void print_flag(FILE *out, const struct asked *asked, enum acs_action action)
+{
+    unsigned flags = snapshot_flags(asked->snapshot);
+    if (action == ACS_ACTION_DIRECT)
+        fprintf(out, "; then U9: flag bit 0 is %d", (flags & ACS_FLAG_ROOTS_REACH) != 0);
+    else if (query_is_completion(asked->query))
+        fprintf(out, "%s", action == ACS_ACTION_REFLECTED ? "; then U11: reflected" : "");
+    else if (action == ACS_ACTION_REFLECTED || acs_answer_letter(asked->answer) == ACS_LETTER_X)
+        fprintf(out, "; then U10: flag bit 1 is %d", (flags & ACS_FLAG_REFLECT) != 0);
+}
+
+/* One entry for each port that the TLP entered from below: only those decide. */
 static void print_deciders(FILE *out, const struct asked *asked)
 {
     unsigned count = acs_answer_hops(asked->answer);
@@ -176,6 +197,8 @@ static void print_deciders(FILE *out, const struct asked *asked)
                 record_control(record),
                 control_words(letters, record_capability(record), record_control(record)), "");
         print_step(out, asked, index, action == ACS_ACTION_END);
+        if (record_kind(record) == ACS_RECORD_ROOT_PORT)
+            print_flag(out, asked, action);
         fprintf(out, "\n");
         if (action == ACS_ACTION_DIRECT || action == ACS_ACTION_REFLECTED
             || action == ACS_ACTION_END)

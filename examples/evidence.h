@@ -22,7 +22,7 @@ void print_evidence(FILE *out, const struct asked *asked);
 
 /* All records of an accepted snapshot, one to a line, under a line of titles. */
 void print_records(FILE *out, const struct snapshot *snapshot);
-/* One record, whatever is in it, on a line of its own. */
+/* One record, whatever is in it, below its parent if that stands before it. */
 void print_record(FILE *out, const struct snapshot *snapshot, unsigned index);
 
 #endif

@@ -27,7 +27,7 @@ static int refuse(struct asked *asked)
 {
     print_refusal(stdout, asked->snapshot, asked->now, asked->query, asked->answer);
     if (acs_answer_refusal(asked->answer) == ACS_REFUSAL_RECORD) {
-        printf("  As the file has it:\n");
+        printf("  As the file has it, with its parent:\n");
         print_record(stdout, asked->snapshot, acs_answer_node(asked->answer));
     }
     print_evidence(stdout, asked);

@@ -20,7 +20,12 @@ peer='rule U4: its peer is record 3, downstream port 02:01.0, Port 2'
 expect 0 "$two 0017h (V B R . U . .)
                $peer; vector bit 2 reads 0 (not asked: E is off)" "$f" 4 write 80100000
 expect 0 "$root 0017h (V B R . U . .)
-               rule U3: the address is below this very port" "$f" 4 write 80100000
+               rule U3: the address is below this very port; then U10: flag bit 1 is 1" "$f" 4 write 80100000
+expect 0 'this very port; then U10: flag bit 1 is 0' "$snapshots/fabric-f-17h-blocking.acs" 4 write 80100000
+expect 0 'this very port; then U11: reflected' "$snapshots/fabric-f-18h.acs" 5 completion 03:00.0
+lacks 'U10' service "$snapshots/fabric-f-07h.acs" 4 write 80100000
+expect 0 'vector bit 0 reads 0 (not asked: E is off); then U9: flag bit 0 is 1' \
+    "$snapshots/chassis.acs" cb:00.0 write 80000000
 expect 0 "$two 0037h (V B R . U E .)
                $peer; vector bit 2 reads 0" "$snapshots/fabric-f-37h.acs" 4 write 80100000
 expect 0 "$two 0037h (V B R . U E .)

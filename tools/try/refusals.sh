@@ -40,6 +40,7 @@ expect 1 "$endpoint_rules" "$snapshots/faulty-record.acs"
 expect 1 '"What a snapshot cannot describe" in docs/INTERFACE.md' "$snapshots/faulty-record.acs"
 expect 1 '     5  endpoint         04:00.0      3' "$snapshots/faulty-record.acs"
 expect 1 '0: 80200000h-80200FFFh' "$snapshots/faulty-record.acs"
+expect 1 '     3  downstream port  02:01.0' "$snapshots/faulty-record.acs"
 lacks 'faulty:' service "$snapshots/faulty-record.acs"
 lacks 'Take a new' service "$snapshots/faulty-record.acs"
 patch function "$(at 5 5)" '\001'
