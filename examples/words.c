@@ -155,17 +155,20 @@ void print_hops(FILE *out, const char *indent, const struct snapshot *snapshot,
 static void print_delivered(FILE *out, const struct snapshot *snapshot,
                             const struct query *query, uint64_t answer)
 {
+    int checked = acs_answer_kind(answer) == ACS_KIND_DELIVERED_CHECKED;
     char node[64];
     fprintf(out, "Delivered to %s", node_words(node, snapshot, acs_answer_node(answer)));
     if (query->origin == ACS_HOST)
         fprintf(out, ", from the host: access control has no part in what the host sends.\n");
-    else if (acs_answer_kind(answer) == ACS_KIND_DELIVERED_UNVALIDATED)
-        fprintf(out, ", UNVALIDATED: it gets there without the root complex having a say.\n");
     else if (query_is_completion(query))
-        fprintf(out, ", checked: the root complex reflects it; completions are not validated.\n");
-    else
+        fprintf(out, checked ? ", checked: the root complex reflects it (a completion is never "
+                               "validated).\n"
+                             : ", unvalidated: the root complex does not reflect it.\n");
+    else if (checked)
         fprintf(out, ", checked: the snapshot says that the root complex reflects it (flag bit 1); "
                      "what its validation finds is not modelled.\n");
+    else
+        fprintf(out, ", UNVALIDATED: it gets there without validation by the root complex.\n");
 }
 
 static void print_unclaimed(FILE *out, const struct snapshot *snapshot,

@@ -57,7 +57,12 @@ for compiler in "$cc" gcc clang; do
         continue
     fi
     by "$compiler" c c99 c11
-    by "$compiler" c++ c++98 c++17
+    # shellcheck disable=SC2086
+    if $compiler -x c++ -fsyntax-only /dev/null 2> /dev/null; then
+        by "$compiler" c++ c++98 c++17
+    else
+        echo "$compiler has no C++, and is not tried as such"
+    fi
     for source in "$@"; do
         # shellcheck disable=SC2086
         $compiler -std=c99 $strict "$source"

@@ -49,6 +49,9 @@ has README.md 'rt check acsroute'
 has README.md '--for-acsroute | target/bin/acsroute'
 has README.md 'minutes'
 says 0 'ACS_LIB' "$MAKE" -s help
+# What README quotes is what is printed.
+quoted=$(sed -n '/^    From record 4/,/^    Delivered/s/^    //p' README.md)
+expect 0 "${quoted:-the words that README quotes}" "$f" 03:00.0 write 80100000
 # Every file and folder that a page names in backquotes is there.
 named() {
     grep -o -h '`[A-Za-z_./-]*`' README.md docs/INTERFACE.md examples/README.md | tr -d '`' | sort -u |
