@@ -7,7 +7,12 @@ ACS_LIB ?= target/staticlib/libacs.a
 
 PREFIX  ?= /usr/local
 LIBDIR  ?= $(PREFIX)/lib
-VERSION := 0.1.0
+DOCDIR  ?= $(PREFIX)/share/doc/acs
+MANDIR  ?= $(PREFIX)/share/man
+# The version and the calls stand in the header; the pages that it names go with it.
+VERSION := $(shell sed -n 's/^.define ACS_VERSION "\(.*\)"/\1/p' include/acs.h)
+CALLS   := $(shell sed -n 's/^uint64_t \(acs_[a-z_]*\).*/\1/p' include/acs.h)
+PAGES   := docs/INTERFACE.md docs/RULES.md
 
 RT      ?= rt
 CARGO   ?= cargo
@@ -46,18 +51,18 @@ FAULTS := independent/target/faults
 SEEDED = $(if $(SEED),--seed $(SEED)) $(if $(CASES),--cases $(CASES))
 
 .DELETE_ON_ERROR:
-.PHONY: help demo test lib install uninstall header example try compare faults bench corpus \
+.PHONY: help demo test lib install uninstall paths header example try compare faults bench corpus \
         snapshots stack symbols clean FORCE
 
 help:
 	@echo 'make demo        build, and show Fabric F in the cases F1 to F14'
 	@echo 'make test        the gate: prove everything, run every program (.ci/run)'
 	@echo 'make lib         the archive and its header, in build/dist'
-	@echo 'make install     libacs.a, acs.h and acs.pc under PREFIX ($(PREFIX)); DESTDIR is honoured'
+	@echo 'make install     library, header, acs.pc, manual and pages under PREFIX ($(PREFIX)); DESTDIR is honoured'
 	@echo 'make uninstall   remove them'
 	@echo 'make example     build examples/service.c, and ask it about three snapshots'
-	@echo 'make try         ask the example everything that can go wrong'
-	@echo 'make header      compile acs.h by itself, as C and as C++'
+	@echo 'make try         ask the example, the header, the pages and the installation all that can go wrong'
+	@echo 'make header      compile acs.h and the examples strictly, as C and C++, by CC, gcc, g++ and clang'
 	@echo 'make compare     the library against the independent program (SEED=S CASES=N)'
 	@echo 'make faults      that the comparison notices each deliberate fault (SEED=S CASES=N)'
 	@echo 'make bench       the library beside the independent program, timed'
@@ -67,6 +72,9 @@ help:
 	@echo 'make corpus      write the cases of crates/acscases anew'
 	@echo 'make snapshots   write the sample snapshots anew'
 	@echo 'make clean       remove build/ and independent/target/'
+	@echo
+	@echo 'The archive is proved and built by rt, which takes some minutes the first time. Where rt is'
+	@echo 'not at hand, name an archive that is there: make demo ACS_LIB=path/to/libacs.a'
 
 # What make builds is in build/, which git leaves alone. (target/ is rt's: rt ci
 # removes it, the archive with it.)
@@ -91,17 +99,38 @@ lib: $(ACS_LIB) include/acs.h | build/.gitignore
 	install -m 644 $(ACS_LIB) build/dist/lib/libacs.a
 	install -m 644 include/acs.h build/dist/include/acs.h
 
-install: $(ACS_LIB) include/acs.h tools/acs.pc.in
-	install -d '$(DESTDIR)$(LIBDIR)/pkgconfig' '$(DESTDIR)$(PREFIX)/include'
+# Paths are written into acs.pc, where a space or a sign of the shell would read as
+# something else.
+quoted = '$(subst ','\'',$(1))'
+paths:
+	@for path in $(foreach name,PREFIX LIBDIR DOCDIR MANDIR,$(call quoted,$(name)=$($(name)))); do \
+	    case $${path#*=} in \
+	    *[!A-Za-z0-9_./+@:,~-]* | '') \
+	        echo "make install: a path may have letters, digits and _./+@:,~- only: $$path" >&2; \
+	        exit 1 ;; \
+	    esac; \
+	done
+
+install: paths $(ACS_LIB) include/acs.h tools/acs.pc.in docs/acs.3 $(PAGES)
+	install -d '$(DESTDIR)$(LIBDIR)/pkgconfig' '$(DESTDIR)$(PREFIX)/include' \
+	    '$(DESTDIR)$(DOCDIR)' '$(DESTDIR)$(MANDIR)/man3'
 	install -m 644 $(ACS_LIB) '$(DESTDIR)$(LIBDIR)/libacs.a'
 	install -m 644 include/acs.h '$(DESTDIR)$(PREFIX)/include/acs.h'
+	install -m 644 $(PAGES) '$(DESTDIR)$(DOCDIR)'
+	install -m 644 docs/acs.3 '$(DESTDIR)$(MANDIR)/man3/acs.3'
+	for call in $(CALLS); do \
+	    echo '.so man3/acs.3' > '$(DESTDIR)$(MANDIR)/man3/'$$call.3 || exit 1; \
+	done
 	sed -e 's|@PREFIX@|$(abspath $(PREFIX))|' -e 's|@LIBDIR@|$(abspath $(LIBDIR))|' \
 	    -e 's|@VERSION@|$(VERSION)|' tools/acs.pc.in > '$(DESTDIR)$(LIBDIR)/pkgconfig/acs.pc'
-	chmod 644 '$(DESTDIR)$(LIBDIR)/pkgconfig/acs.pc'
+	chmod 644 '$(DESTDIR)$(LIBDIR)/pkgconfig/acs.pc' $(CALLS:%='$(DESTDIR)$(MANDIR)/man3/%.3')
 
-uninstall:
+uninstall: paths
 	rm -f '$(DESTDIR)$(LIBDIR)/libacs.a' '$(DESTDIR)$(PREFIX)/include/acs.h' \
-	    '$(DESTDIR)$(LIBDIR)/pkgconfig/acs.pc'
+	    '$(DESTDIR)$(LIBDIR)/pkgconfig/acs.pc' '$(DESTDIR)$(MANDIR)/man3/acs.3' \
+	    $(CALLS:%='$(DESTDIR)$(MANDIR)/man3/%.3') \
+	    $(PAGES:docs/%='$(DESTDIR)$(DOCDIR)/%')
+	-rmdir '$(DESTDIR)$(DOCDIR)'
 
 # ---- Programs in C ----
 
@@ -110,34 +139,41 @@ SETTING = $(ACS_LIB) $(CC) $(CPPFLAGS) $(CFLAGS) $(LDFLAGS) $(LDLIBS)
 build/setting: FORCE | build/.gitignore
 	@echo '$(SETTING)' | cmp -s - $@ || echo '$(SETTING)' > $@
 
-COMMON := examples/words.c examples/words.h include/acs.h
+# What the programs share, and what only the service has.
+WORDS   := examples/words.c examples/query.c examples/snapshot.c
+SERVICE := examples/service.c examples/arguments.c examples/evidence.c examples/sha256.c
+HEADERS := include/acs.h $(wildcard examples/*.h)
 COMPILE = $(CC) $(CPPFLAGS) -Iinclude -Iexamples $(STRICT) $(CFLAGS) $(LDFLAGS) -o $@ \
           $(filter %.c,$^) $(ACS_LIB) $(LDLIBS)
 
-build/service: examples/service.c $(COMMON) $(ACS_LIB) build/setting
+build/service: $(SERVICE) $(WORDS) $(HEADERS) $(ACS_LIB) build/setting
 	$(COMPILE)
 
-build/demo: examples/demo.c $(COMMON) $(ACS_LIB) build/setting
+build/demo: examples/demo.c $(WORDS) $(HEADERS) $(ACS_LIB) build/setting
+	$(COMPILE)
+
+build/names: tools/try/names.c $(HEADERS) $(ACS_LIB) build/setting
 	$(COMPILE)
 
 # All symbols are bound at the start, so that no call pays for it with its stack.
-build/stack: tools/stack.c $(COMMON) $(ACS_LIB) build/setting
+build/stack: tools/stack.c $(WORDS) $(HEADERS) $(ACS_LIB) build/setting
 	$(COMPILE) -pthread -Wl,-z,now
 
 demo: build/demo
 	@$(RUN) build/demo $(SNAPSHOTS)
 
 example: build/service
-	@echo; echo '$$ service fabric-f-17h.acs 4 write 0x80100000 03:00.0'
-	@$(RUN) build/service $(SNAPSHOTS)/fabric-f-17h.acs 4 write 0x80100000 03:00.0
-	@echo; echo '$$ service expired.acs 4 write 0x80100000 03:00.0'
-	@$(RUN) build/service $(SNAPSHOTS)/expired.acs 4 write 0x80100000 03:00.0 || test $$? -eq 1
-	@echo; echo '$$ service torn.acs 4 write 0x80100000 03:00.0'
-	@$(RUN) build/service $(SNAPSHOTS)/torn.acs 4 write 0x80100000 03:00.0 || test $$? -eq 1
+	@echo; echo '$$ service fabric-f-17h.acs 4 write 80100000'
+	@$(RUN) build/service $(SNAPSHOTS)/fabric-f-17h.acs 4 write 80100000
+	@echo; echo '$$ service expired.acs 4 write 80100000'
+	@$(RUN) build/service $(SNAPSHOTS)/expired.acs 4 write 80100000 || test $$? -eq 1
+	@echo; echo '$$ service torn.acs 4 write 80100000'
+	@$(RUN) build/service $(SNAPSHOTS)/torn.acs 4 write 80100000 || test $$? -eq 1
 	@echo; echo 'build/service --help says what else can be asked.'
 
-try: build/service
-	@RUN='$(RUN)' tools/try_service.sh build/service $(SNAPSHOTS)
+# Whatever is promised to somebody who uses the library: a part for each.
+try: build/service build/demo build/names
+	@RUN='$(RUN)' CC='$(CC)' MAKE='$(MAKE)' ACS_LIB='$(ACS_LIB)' tools/try/run.sh $(SNAPSHOTS)
 
 stack: build/stack
 	@$(RUN) build/stack $(SNAPSHOTS)
@@ -146,10 +182,7 @@ symbols: $(ACS_LIB)
 	@tools/symbols.sh $(ACS_LIB) $(TOOLS)
 
 header:
-	@for words in 'c -std=c99' 'c -std=c11' 'c++ -std=c++98' 'c++ -std=c++17'; do \
-	    echo "acs.h by itself, as $${words#* -std=}"; \
-	    $(CC) -x $$words -Wall -Wextra -Wpedantic -Werror -fsyntax-only include/acs.h || exit 1; \
-	done
+	@tools/strict.sh '$(CC)' $(SERVICE) $(WORDS) examples/demo.c tools/try/names.c
 
 # ---- The gate, and the independent program ----
 

@@ -2,102 +2,12 @@
 
 #include "words.h"
 
-#include <errno.h>
 #include <inttypes.h>
 #include <stdarg.h>
 #include <string.h>
 #include <time.h>
 
-/* ---- The snapshot's bytes ---- */
-
-int snapshot_load(struct snapshot *snapshot, const char *path)
-{
-    FILE *file = fopen(path, "rb");
-    if (file == NULL) {
-        fprintf(stderr, "%s: cannot open the snapshot: %s\n", path, strerror(errno));
-        return 0;
-    }
-    /* A file longer than every snapshot is refused whatever comes after, so the
-       first byte too many is enough. */
-    errno = 0;
-    snapshot->length = fread(snapshot->bytes, 1, sizeof snapshot->bytes, file);
-    if (ferror(file)) {
-        fprintf(stderr, "%s: cannot read the snapshot: %s\n", path, strerror(errno));
-        fclose(file);
-        return 0;
-    }
-    fclose(file);
-    return 1;
-}
-
-unsigned get16(const uint8_t *bytes)
-{
-    return bytes[0] | (unsigned)bytes[1] << 8;
-}
-
-uint64_t get64(const uint8_t *bytes)
-{
-    uint64_t number = 0;
-    for (int i = 7; i >= 0; i--)
-        number = number << 8 | bytes[i];
-    return number;
-}
-
-unsigned snapshot_count(const struct snapshot *snapshot)
-{
-    return get16(snapshot->bytes + 6);
-}
-
-uint64_t snapshot_taken(const struct snapshot *snapshot)
-{
-    return get64(snapshot->bytes + 8);
-}
-
-uint64_t snapshot_until(const struct snapshot *snapshot)
-{
-    return get64(snapshot->bytes + 16);
-}
-
-const uint8_t *snapshot_record(const struct snapshot *snapshot, unsigned index)
-{
-    size_t first = ACS_SNAPSHOT_HEAD + (size_t)index * ACS_SNAPSHOT_RECORD;
-    if (snapshot->length < ACS_SNAPSHOT_HEAD || index >= snapshot_count(snapshot))
-        return NULL;
-    if (first + ACS_SNAPSHOT_RECORD > snapshot->length)
-        return NULL;
-    return snapshot->bytes + first;
-}
-
-/* ---- The header ---- */
-
-size_t query_header(const struct query *query, uint8_t header[16])
-{
-    size_t length = 12;
-    memset(header, 0, 16);
-    if (query->tlp == TLP_COMPLETION) {
-        header[0] = query->without_data ? 0x0A : 0x4A;
-        header[2] = query->relaxed ? 0x20 : 0;
-        header[3] = query->without_data ? 0 : 1;
-        header[8] = (uint8_t)(query->id >> 8);
-        header[9] = (uint8_t)(query->id & 0xFF);
-        return length;
-    }
-    header[0] = query->tlp == TLP_WRITE ? 0x40 : 0x00;
-    header[2] = (uint8_t)(query->address_type << 2 | (query->doublewords >> 8 & 3));
-    header[3] = (uint8_t)(query->doublewords & 0xFF);
-    header[4] = (uint8_t)(query->id >> 8);
-    header[5] = (uint8_t)(query->id & 0xFF);
-    if (query->address >> 32 != 0) {
-        header[0] |= 0x20;
-        length = 16;
-    }
-    for (size_t i = length; i > 8; i--)
-        header[i - 1] = (uint8_t)(query->address >> 8 * (length - i));
-    header[length - 1] &= 0xFC;
-    return length;
-}
-
-/* ---- Words ---- */
+/* ---- Single things ---- */
 
 const char *id_words(char words[16], unsigned id)
 {
@@ -105,14 +15,40 @@ const char *id_words(char words[16], unsigned id)
     return words;
 }
 
-const char *control_words(char words[16], unsigned control)
+const char *node_words(char words[64], const struct snapshot *snapshot, unsigned index)
+{
+    const uint8_t *record = snapshot_record(snapshot, index);
+    char id[16];
+    if (record == NULL)
+        snprintf(words, 64, "record %u", index);
+    else if (record[0] < ACS_RECORD_ROOT_PORT || record[0] > ACS_RECORD_ENDPOINT)
+        snprintf(words, 64, "record %u, of unknown kind %u", index, record[0]);
+    else if (record_is_port(record))
+        snprintf(words, 64, "record %u, %s %s, Port %u", index,
+                 acs_record_kind_name(record_kind(record)), id_words(id, record_id(record)),
+                 record_port_number(record));
+    else
+        snprintf(words, 64, "record %u, %s %s", index, acs_record_kind_name(record_kind(record)),
+                 id_words(id, record_id(record)));
+    return words;
+}
+
+const char *control_words(char words[16], unsigned capability, unsigned control)
 {
     static const char letters[] = "VBRCUET";
     for (int bit = 0; bit < 7; bit++) {
-        words[2 * bit] = control >> bit & 1 ? letters[bit] : '.';
+        words[2 * bit] = control >> bit & 1 ? letters[bit] : capability >> bit & 1 ? '.' : '-';
         words[2 * bit + 1] = ' ';
     }
     words[13] = '\0';
+    return words;
+}
+
+const char *flags_words(char words[96], unsigned flags)
+{
+    snprintf(words, 96, "root ports may %sreach each other; redirected requests are %s",
+             flags & ACS_FLAG_ROOTS_REACH ? "" : "not ",
+             flags & ACS_FLAG_REFLECT ? "reflected" : "blocked");
     return words;
 }
 
@@ -130,68 +66,35 @@ const char *time_words(char words[64], uint64_t seconds)
     return words;
 }
 
-static const char *node_words(char words[48], const struct snapshot *snapshot, unsigned index)
+/* What a TLP is routed by. */
+static const char *target_words(const struct query *query)
 {
-    const char *before = "record ", *after = "";
-    const uint8_t *record = snapshot_record(snapshot, index);
-    switch (record == NULL ? 0 : record[0]) {
-    case ACS_RECORD_ROOT_PORT:
-        before = "port ";
-        after = " (root port)";
-        break;
-    case ACS_RECORD_UPSTREAM_PORT:
-        before = "upstream port ";
-        break;
-    case ACS_RECORD_DOWNSTREAM_PORT:
-        before = "port ";
-        after = " (downstream port)";
-        break;
-    case ACS_RECORD_ENDPOINT:
-        before = "endpoint ";
-        break;
-    }
-    snprintf(words, 48, "%s%u%s", before, index, after);
-    return words;
-}
-
-static char letter_of(uint64_t answer)
-{
-    switch (acs_answer_letter(answer)) {
-    case ACS_LETTER_V:
-        return 'V';
-    case ACS_LETTER_B:
-        return 'B';
-    case ACS_LETTER_E:
-        return 'E';
-    case ACS_LETTER_X:
-        return 'X';
-    }
-    return '?';
+    return query_is_completion(query) ? "ID" : "address";
 }
 
 /* ---- What is asked ---- */
 
-static const char *const address_types[4] = {
-    "untranslated", "a translation request", "translated", "of the reserved address type"
-};
-
 void print_query(FILE *out, const struct snapshot *snapshot, const struct query *query)
 {
-    char node[48], id[16];
+    char node[64], id[16];
+    const char *whose = "";
     if (query->origin == ACS_HOST)
         fprintf(out, "From the host: ");
     else
         fprintf(out, "From %s: ", node_words(node, snapshot, query->origin));
-    if (query->tlp == TLP_COMPLETION) {
+    if (query_is_completion(query)) {
         fprintf(out, "completion with%s data to %s, Relaxed Ordering %s.\n",
-                query->without_data ? "out" : "", id_words(id, query->id),
+                query->tlp == ACS_TLP_COMPLETION ? "out" : "", id_words(id, query->id),
                 query->relaxed ? "set" : "clear");
         return;
     }
-    fprintf(out, "%s of %u doubleword%s at %08" PRIX64 "h, requester %s, %s.\n",
-            query->tlp == TLP_WRITE ? "write" : "read", query->doublewords,
+    if (query->origin != ACS_HOST && snapshot_record(snapshot, query->origin) != NULL)
+        whose = query->id == query_sender(query, snapshot) ? " (its own ID)" : " (NOT its own ID)";
+    fprintf(out, "%s of %u doubleword%s at %08" PRIX64 "h, requester %s%s, address type %u (%s).\n",
+            query->tlp == ACS_TLP_WRITE ? "write" : "read", query->doublewords,
             query->doublewords == 1 ? "" : "s", query->address & ~UINT64_C(3),
-            id_words(id, query->id), address_types[query->address_type & 3]);
+            id_words(id, query->id), whose, (unsigned)query->address_type,
+            acs_address_type_name(query->address_type));
 }
 
 /* ---- The hops ---- */
@@ -199,100 +102,124 @@ void print_query(FILE *out, const struct snapshot *snapshot, const struct query 
 static void print_end(FILE *out, const struct snapshot *snapshot, unsigned index,
                       uint64_t answer)
 {
-    char node[48];
+    char node[64];
+    if (index != ACS_HOST)
+        node_words(node, snapshot, index);
     switch (acs_answer_kind(answer)) {
     case ACS_KIND_DELIVERED_UNVALIDATED:
     case ACS_KIND_DELIVERED_CHECKED:
-        fprintf(out, "reaches %s: delivered\n", node_words(node, snapshot, index));
-        return;
+        fprintf(out, "reaches %s: delivered\n", node);
+        break;
     case ACS_KIND_HOST:
         fprintf(out, "reaches the host\n");
-        return;
+        break;
     case ACS_KIND_UNCLAIMED:
-        if (index == ACS_HOST)
-            fprintf(out, "ends in the root complex: unclaimed\n");
-        else
-            fprintf(out, "ends at %s: unclaimed\n", node_words(node, snapshot, index));
-        return;
+        fprintf(out, "ends %s%s: unclaimed\n", index == ACS_HOST ? "in " : "at ",
+                index == ACS_HOST ? "the root complex" : node);
+        break;
     case ACS_KIND_UNDEFINED:
-        fprintf(out, "enters %s: undefined from here\n", node_words(node, snapshot, index));
-        return;
+        fprintf(out, "enters %s: undefined from here\n", node);
+        break;
     case ACS_KIND_VIOLATION:
-        fprintf(out, "enters %s: stopped, violation %c\n", node_words(node, snapshot, index),
-                letter_of(answer));
-        return;
+        fprintf(out, "enters %s: stopped, violation %s (%s)\n", node,
+                acs_letter_name(acs_answer_letter(answer)),
+                acs_letter_text(acs_answer_letter(answer)));
+        break;
+    case ACS_KIND_REFUSED:
+        break;
     }
-    fprintf(out, "ends at %s\n", node_words(node, snapshot, index));
 }
 
 void print_hops(FILE *out, const char *indent, const struct snapshot *snapshot,
-                uint64_t answer, const uint8_t *hops)
+                const struct query *query, uint64_t answer, const uint8_t *hops)
 {
-    static const char *const actions[7] = {
-        "?",
-        "up as addressed",
-        "redirected up",
-        "up by U, since it covers it itself",
-        "direct to a peer",
-        "reflected by the root complex",
-        "down"
-    };
     unsigned count = acs_answer_hops(answer);
     for (unsigned number = 0; number < count; number++) {
         unsigned index = acs_hop_index(hops, number);
-        unsigned action = acs_hop_action(hops, number);
-        char node[48];
+        enum acs_action action = acs_hop_action(hops, number);
+        char node[64];
         fprintf(out, "%s%u. ", indent, number + 1);
-        if (action == ACS_ACTION_END)
+        if (action == ACS_ACTION_END) {
             print_end(out, snapshot, index, answer);
-        else
-            fprintf(out, "enters %s: %s\n", node_words(node, snapshot, index),
-                    actions[action < 7 ? action : 0]);
+            continue;
+        }
+        fprintf(out, "enters %s: %s", node_words(node, snapshot, index), acs_action_name(action));
+        if (action == ACS_ACTION_UP_BY_U)
+            fprintf(out, ", the %s being below this very port", target_words(query));
+        fprintf(out, "\n");
     }
 }
 
 /* ---- The outcome ---- */
 
+static void print_delivered(FILE *out, const struct snapshot *snapshot,
+                            const struct query *query, uint64_t answer)
+{
+    int checked = acs_answer_kind(answer) == ACS_KIND_DELIVERED_CHECKED;
+    char node[64];
+    fprintf(out, "Delivered to %s", node_words(node, snapshot, acs_answer_node(answer)));
+    if (query->origin == ACS_HOST)
+        fprintf(out, ", from the host: access control has no part in what the host sends.\n");
+    else if (query_is_completion(query))
+        fprintf(out, checked ? ", checked: the root complex reflects it (a completion is never "
+                               "validated).\n"
+                             : ", unvalidated: the root complex does not reflect it.\n");
+    else if (checked)
+        fprintf(out, ", checked: the snapshot says that the root complex reflects it (flag bit 1); "
+                     "what its validation finds is not modelled.\n");
+    else
+        fprintf(out, ", UNVALIDATED: it gets there without validation by the root complex.\n");
+}
+
 static void print_unclaimed(FILE *out, const struct snapshot *snapshot,
                             const struct query *query, unsigned index)
 {
-    const char *target = query->tlp == TLP_COMPLETION ? "ID" : "address";
-    const uint8_t *record = snapshot_record(snapshot, index);
-    char node[48];
-    if (index == ACS_HOST && query->origin == ACS_HOST)
-        fprintf(out, "no root port covers the %s.\n", target);
-    else if (index == ACS_HOST)
-        fprintf(out, "it is for another root port, and root ports may not reach each other.\n");
-    else if (record != NULL && record[0] == ACS_RECORD_ENDPOINT)
-        fprintf(out, "%s has %s.\n", node_words(node, snapshot, index),
-                query->tlp == TLP_COMPLETION ? "another ID" : "no range with that address");
-    else if (record != NULL && record[0] == ACS_RECORD_UPSTREAM_PORT)
-        fprintf(out, "no port below %s covers the %s.\n", node_words(node, snapshot, index),
-                target);
+    const char *target = target_words(query);
+    const uint8_t *record = index == ACS_HOST ? NULL : snapshot_record(snapshot, index);
+    char node[64];
+    fprintf(out, "Unclaimed: ");
+    if (record == NULL) {
+        if (query->origin == ACS_HOST)
+            fprintf(out, "no root port covers the %s.\n", target);
+        else
+            fprintf(out, "another root port covers the %s, and root ports may not reach each "
+                         "other (flag bit 0).\n", target);
+        return;
+    }
+    node_words(node, snapshot, index);
+    if (record_kind(record) == ACS_RECORD_ENDPOINT)
+        fprintf(out, "%s has %s.\n", node,
+                query_is_completion(query) ? "another ID" : "no range with that address");
+    else if (record_kind(record) == ACS_RECORD_UPSTREAM_PORT)
+        fprintf(out, "no port below %s covers the %s.\n", node, target);
     else
-        fprintf(out, "nothing stands below %s.\n", node_words(node, snapshot, index));
+        fprintf(out, "nothing stands below %s.\n", node);
 }
 
 static void print_violation(FILE *out, const struct snapshot *snapshot,
                             const struct query *query, uint64_t answer)
 {
-    char node[48];
-    fprintf(out, "Violation %c at %s: ", letter_of(answer),
+    enum acs_letter letter = acs_answer_letter(answer);
+    char node[64];
+    fprintf(out, "Violation %s at %s: ", acs_letter_name(letter),
             node_words(node, snapshot, acs_answer_node(answer)));
-    switch (acs_answer_letter(answer)) {
+    switch (letter) {
     case ACS_LETTER_V:
         fprintf(out, "Source Validation is on, and the requester's bus %02Xh is not below the port.",
                 (unsigned)query->id >> 8);
         break;
     case ACS_LETTER_B:
-        fprintf(out, "Translation Blocking is on, and the request is %s.",
-                address_types[query->address_type & 3]);
+        fprintf(out, "Translation Blocking is on, and the request's address type is %u (%s).",
+                (unsigned)query->address_type, acs_address_type_name(query->address_type));
         break;
     case ACS_LETTER_E:
         fprintf(out, "P2P Egress Control forbids requests to this peer.");
         break;
     case ACS_LETTER_X:
-        fprintf(out, "the root complex blocks redirected requests.");
+        fprintf(out, "the snapshot says that the root complex blocks redirected requests "
+                     "(flag bit 1).");
+        break;
+    case ACS_LETTER_NONE:
         break;
     }
     fprintf(out, acs_answer_abort(answer) ? " The read ends in a completer abort.\n"
@@ -302,75 +229,124 @@ static void print_violation(FILE *out, const struct snapshot *snapshot,
 void print_outcome(FILE *out, const struct snapshot *snapshot, const struct query *query,
                    uint64_t answer)
 {
-    char node[48];
-    unsigned index = acs_answer_node(answer);
+    char node[64];
     switch (acs_answer_kind(answer)) {
     case ACS_KIND_DELIVERED_UNVALIDATED:
-        fprintf(out, "Delivered to %s, unvalidated: the root complex has not checked it.\n",
-                node_words(node, snapshot, index));
-        return;
     case ACS_KIND_DELIVERED_CHECKED:
-        fprintf(out, "Delivered to %s, checked: it was reflected by the root complex.\n",
-                node_words(node, snapshot, index));
-        return;
+        print_delivered(out, snapshot, query, answer);
+        break;
     case ACS_KIND_HOST:
         fprintf(out, "Reaches the host.\n");
-        return;
+        break;
     case ACS_KIND_UNCLAIMED:
-        fprintf(out, "Unclaimed: ");
-        print_unclaimed(out, snapshot, query, index);
-        return;
+        print_unclaimed(out, snapshot, query, acs_answer_node(answer));
+        break;
     case ACS_KIND_UNDEFINED:
-        fprintf(out, "Undefined: %s covers it itself, with Upstream Forwarding (U) off; "
-                     "PCI Express leaves open what happens then.\n",
-                node_words(node, snapshot, index));
-        return;
+        fprintf(out, "Undefined: the %s is below %s, which it entered from below, and Upstream "
+                     "Forwarding (U) is off there; PCI Express leaves open what happens then.\n",
+                target_words(query), node_words(node, snapshot, acs_answer_node(answer)));
+        break;
     case ACS_KIND_VIOLATION:
         print_violation(out, snapshot, query, answer);
-        return;
+        break;
+    case ACS_KIND_REFUSED:
+        fprintf(out, "Refused: %s.\n", acs_refusal_text(acs_answer_refusal(answer)));
+        break;
     }
-    fprintf(out, "An answer of unknown kind %u.\n", acs_answer_kind(answer));
 }
 
 /* ---- Refusals ---- */
 
+/* Refusal 1 where the length is not what the records take. */
+static void print_bad_length(FILE *out, const struct snapshot *snapshot)
+{
+    size_t wanted = ACS_SNAPSHOT_HEAD + (size_t)ACS_SNAPSHOT_RECORD * snapshot_count(snapshot);
+    if (snapshot->length > ACS_SNAPSHOT_MOST)
+        fprintf(out, "its %u records take %zu bytes, and the file has more than %d.",
+                snapshot_count(snapshot), wanted, ACS_SNAPSHOT_MOST);
+    else
+        fprintf(out, "its %u records take %zu bytes, and the file has %zu.",
+                snapshot_count(snapshot), wanted, snapshot->length);
+    fprintf(out, " It was %s; fetch it again.\n",
+            snapshot->length < wanted ? "cut off" : "added to");
+}
+
 static void print_bad_file(FILE *out, const struct snapshot *snapshot)
 {
-    const uint8_t *bytes = snapshot->bytes;
     char taken[64], until[64];
     fprintf(out, "this is not a whole snapshot: ");
-    if (snapshot->length == 0) {
+    if (snapshot->length == 0)
         fprintf(out, "the file is empty.\n");
-    } else if (snapshot->length < ACS_SNAPSHOT_HEAD) {
+    else if (snapshot->length < ACS_SNAPSHOT_HEAD)
         fprintf(out, "the file has %zu bytes, and the snapshot's header alone has %d.\n",
                 snapshot->length, ACS_SNAPSHOT_HEAD);
-    } else if (memcmp(bytes, "ACS", 3) != 0) {
+    else if (memcmp(snapshot->bytes, "ACS", 3) != 0)
         fprintf(out, "the file does not start with the mark ACS.\n");
-    } else if (bytes[3] > 3) {
-        fprintf(out, "its flags are %02Xh, and only bits 0 and 1 have a meaning.\n", bytes[3]);
-    } else if (snapshot_count(snapshot) > ACS_SNAPSHOT_RECORDS_MOST) {
+    else if ((snapshot_flags(snapshot) & ~(unsigned)(ACS_FLAG_ROOTS_REACH | ACS_FLAG_REFLECT)) != 0)
+        fprintf(out, "its flags are %02Xh, and only bits 0 and 1 have a meaning.\n",
+                snapshot_flags(snapshot));
+    else if (snapshot_count(snapshot) > ACS_SNAPSHOT_RECORDS_MOST)
         fprintf(out, "it announces %u records, and %d are the most.\n",
                 snapshot_count(snapshot), ACS_SNAPSHOT_RECORDS_MOST);
-    } else if (snapshot_until(snapshot) < snapshot_taken(snapshot)) {
+    else if (snapshot_until(snapshot) < snapshot_taken(snapshot))
         fprintf(out, "it was taken at %s and good until %s, which is earlier.\n",
                 time_words(taken, snapshot_taken(snapshot)),
                 time_words(until, snapshot_until(snapshot)));
-    } else {
-        size_t wanted =
-            ACS_SNAPSHOT_HEAD + (size_t)ACS_SNAPSHOT_RECORD * snapshot_count(snapshot);
-        fprintf(out, "its %u records take %zu bytes, and the file has %s%zu. It was %s.\n",
-                snapshot_count(snapshot), wanted,
-                snapshot->length > ACS_SNAPSHOT_MOST ? "more than " : "",
-                snapshot->length > ACS_SNAPSHOT_MOST ? (size_t)ACS_SNAPSHOT_MOST
-                                                     : snapshot->length,
-                snapshot->length < wanted ? "cut off; fetch it again" : "added to; fetch it again");
+    else
+        print_bad_length(out, snapshot);
+}
+
+static void print_bad_time(FILE *out, const struct snapshot *snapshot, uint64_t now)
+{
+    char then[64], here[64];
+    if (now < snapshot_taken(snapshot))
+        fprintf(out, "the snapshot was taken at %s, and it is only %s. Look at the clocks.\n",
+                time_words(then, snapshot_taken(snapshot)), time_words(here, now));
+    else
+        fprintf(out, "the snapshot was good until %s, and it is now %s. Take a new one.\n",
+                time_words(then, snapshot_until(snapshot)), time_words(here, now));
+}
+
+/* The rules of docs/RULES.md that a record of a kind can break. What is also
+   against a sibling of kind 2 or 4 is against R3 already. */
+static const char *record_rules(unsigned kind)
+{
+    switch ((enum acs_record_kind)kind) {
+    case ACS_RECORD_ROOT_PORT:
+        return "R1, R2, R5, R6, R7, R8, R9, R11, R12, R14 and R15";
+    case ACS_RECORD_UPSTREAM_PORT:
+        return "R1, R2, R3, R4, R5, R6, R9, R11 and R13";
+    case ACS_RECORD_DOWNSTREAM_PORT:
+        return "R1, R2, R5, R6, R7, R8, R9, R11, R12, R13, R14 and R15";
+    case ACS_RECORD_ENDPOINT:
+        return "R1, R2, R3, R4, R5, R10, R11 and R13";
     }
+    return NULL;
+}
+
+static void print_bad_record(FILE *out, const struct snapshot *snapshot, unsigned index)
+{
+    const uint8_t *record = snapshot_record(snapshot, index);
+    const char *rules = record_rules(record[0]);
+    fprintf(out, "record %u of the file is not acceptable: it breaks a rule for records, by itself "
+                 "or against a record before it. That is said of the file, not of the hardware.\n",
+            index);
+    if (rules == NULL)
+        fprintf(out, "  Its kind is %u, which breaks R1 of docs/RULES.md: kinds are 1 to 4.\n",
+                record[0]);
+    else
+        fprintf(out, "  It is given as %s %s; such a record can break %s of docs/RULES.md.\n",
+                record_kind(record) == ACS_RECORD_ENDPOINT
+                        || record_kind(record) == ACS_RECORD_UPSTREAM_PORT ? "an" : "a",
+                acs_record_kind_name(record_kind(record)), rules);
+    fprintf(out, "  If that is how the hardware is, see \"What a snapshot cannot describe\" in "
+                 "docs/INTERFACE.md; else mend what wrote the file.\n");
 }
 
 static void print_bad_origin(FILE *out, const struct snapshot *snapshot,
                              const struct query *query)
 {
-    char node[48];
+    char node[64];
     if (snapshot_record(snapshot, query->origin) != NULL)
         fprintf(out, "%s cannot send; a query starts at an endpoint or at the host.\n",
                 node_words(node, snapshot, query->origin));
@@ -382,54 +358,43 @@ static void print_bad_origin(FILE *out, const struct snapshot *snapshot,
 static void print_bad_header(FILE *out, const struct query *query)
 {
     uint64_t start = query->address & 0xFFC;
-    if (query->tlp != TLP_COMPLETION && start + 4 * query->doublewords > 4096)
+    if (!query_is_completion(query) && start + 4 * query->doublewords > 4096)
         fprintf(out, "the request runs over a 4,096-byte boundary: %u bytes at %08" PRIX64 "h.\n",
                 4 * query->doublewords, query->address & ~UINT64_C(3));
     else
-        fprintf(out, "the TLP header is bad.\n");
+        fprintf(out, "%s.\n", acs_refusal_text(ACS_REFUSAL_HEADER));
 }
 
 void print_refusal(FILE *out, const struct snapshot *snapshot, uint64_t now,
                    const struct query *query, uint64_t answer)
 {
-    char node[48], then[64], here[64];
-    fprintf(out, "Refused (%u): ", acs_answer_refusal(answer));
-    switch (acs_answer_refusal(answer)) {
+    enum acs_refusal refusal = acs_answer_refusal(answer);
+    fprintf(out, "Refused (%u): ", (unsigned)refusal);
+    switch (refusal) {
     case ACS_REFUSAL_FILE:
         print_bad_file(out, snapshot);
-        return;
+        break;
     case ACS_REFUSAL_VERSION:
-        fprintf(out, "the snapshot is of version %u, and only version 1 is understood.\n",
-                get16(snapshot->bytes + 4));
-        return;
+        fprintf(out, "the snapshot is of version %u, and only version %d is understood.\n",
+                snapshot_version(snapshot), ACS_SNAPSHOT_VERSION);
+        break;
     case ACS_REFUSAL_TIME:
-        if (now < snapshot_taken(snapshot))
-            fprintf(out, "the snapshot was taken at %s, and it is only %s. "
-                         "Look at the clocks.\n",
-                    time_words(then, snapshot_taken(snapshot)), time_words(here, now));
-        else
-            fprintf(out, "the snapshot was good until %s, and it is now %s. "
-                         "Take a new one.\n",
-                    time_words(then, snapshot_until(snapshot)), time_words(here, now));
-        return;
+        print_bad_time(out, snapshot, now);
+        break;
     case ACS_REFUSAL_RECORD:
-        fprintf(out, "%s is faulty: it breaks a rule by itself or against a record before it. "
-                     "Take a new snapshot.\n",
-                node_words(node, snapshot, acs_answer_node(answer)));
-        return;
+        print_bad_record(out, snapshot, acs_answer_node(answer));
+        break;
     case ACS_REFUSAL_ORIGIN:
         print_bad_origin(out, snapshot, query);
-        return;
+        break;
     case ACS_REFUSAL_HEADER:
         print_bad_header(out, query);
-        return;
+        break;
     case ACS_REFUSAL_ROOM:
-        fprintf(out, "the way has more hops than the room lent for them holds; "
-                     "%d bytes are always enough.\n",
-                ACS_HOPS_ROOM);
-        return;
+    case ACS_REFUSAL_NONE:
+        fprintf(out, "%s.\n", acs_refusal_text(refusal));
+        break;
     }
-    fprintf(out, "a refusal of unknown number.\n");
 }
 
 /* ---- One line ---- */
@@ -448,26 +413,26 @@ static size_t add(char *line, size_t size, size_t used, const char *form, ...)
 
 const char *answer_line(char *line, size_t size, uint64_t answer, const uint8_t *hops)
 {
-    static const char *const names[6] = {
-        "delivered", "delivered", "host", "unclaimed", "undefined", "violation"
+    static const char *const names[7] = {
+        "delivered", "delivered", "host", "unclaimed", "undefined", "violation", "refusal"
     };
     unsigned kind = acs_answer_kind(answer);
     unsigned count = acs_answer_hops(answer);
     size_t used = 0;
-    if (kind > ACS_KIND_VIOLATION) {
+    if (acs_answer_refused(answer)) {
         add(line, size, 0, "refusal %u %u", acs_answer_refusal(answer), acs_answer_node(answer));
         return line;
     }
-    used = add(line, size, used, "%s %u", names[kind], acs_answer_node(answer));
+    used = add(line, size, used, "%s %u", names[kind < 7 ? kind : 6], acs_answer_node(answer));
     if (kind == ACS_KIND_DELIVERED_UNVALIDATED)
         used = add(line, size, used, " unvalidated");
     if (kind == ACS_KIND_DELIVERED_CHECKED)
         used = add(line, size, used, " checked");
     if (kind == ACS_KIND_VIOLATION)
-        used = add(line, size, used, " %c %s", letter_of(answer),
+        used = add(line, size, used, " %s %s", acs_letter_name(acs_answer_letter(answer)),
                    acs_answer_abort(answer) ? "abort" : "drop");
     for (unsigned number = 0; number < count; number++)
         used = add(line, size, used, " %u:%u", acs_hop_index(hops, number),
-                   acs_hop_action(hops, number));
+                   (unsigned)acs_hop_action(hops, number));
     return line;
 }

@@ -39,7 +39,7 @@ static void *measure(void *given)
 {
     struct call *call = given;
     const struct snapshot *snapshot = call->snapshot;
-    static uint8_t header[16], hops[ACS_HOPS_ROOM];
+    static uint8_t header[ACS_HEADER_ROOM], hops[ACS_HOPS_ROOM];
     size_t header_length = call->query == NULL ? 0 : query_header(call->query, header);
     uint8_t *top;
     volatile uint8_t *place;
@@ -121,12 +121,12 @@ static void load(struct snapshot *snapshot, const char *folder, const char *file
 int main(int argc, char **argv)
 {
     static struct snapshot small, chassis, deepest;
-    static const struct query f2 = { 4, TLP_WRITE, 0x80100000, 0, 1, 0x0300, 0, 0 };
-    static const struct query across = { 3, TLP_WRITE, 0x7800000000, 0, 1, 0x0300, 0, 0 };
-    static const struct query up = { 255, TLP_READ, 0x1000, 0, 1, 0xFF00, 0, 0 };
-    static const struct query down = { ACS_HOST, TLP_READ, 0x80000000, 0, 1, 0, 0, 0 };
-    static const struct query both = { 255, TLP_WRITE, 0x80000000, 0, 1, 0xFF00, 0, 0 };
-    static const struct query answer = { 255, TLP_COMPLETION, 0, 0, 0, 0xFF00, 0, 0 };
+    static const struct query f2 = { 4, ACS_TLP_WRITE, 0x80100000, 0, 1, 0x0300, 0 };
+    static const struct query across = { 3, ACS_TLP_WRITE, 0x7800000000, 0, 1, 0x0300, 0 };
+    static const struct query up = { 255, ACS_TLP_READ, 0x1000, 0, 1, 0xFF00, 0 };
+    static const struct query down = { ACS_HOST, ACS_TLP_READ, 0x80000000, 0, 1, 0, 0 };
+    static const struct query both = { 255, ACS_TLP_WRITE, 0x80000000, 0, 1, 0xFF00, 0 };
+    static const struct query answer = { 255, ACS_TLP_COMPLETION_DATA, 0, 0, 0, 0xFF00, 0 };
     static const struct {
         const struct snapshot *snapshot;
         const char *fabric, *what;
