@@ -1,11 +1,11 @@
 -- Inputs alone determine the answer word and the final bytes of the buffer: whatever meets the promise gives the same. There is no
--- exception. Assumes nothing.
+-- exception.
 use mathlib.Core.Path.{_≡_, sym, _∙_}
 use mathlib.Core.List.{List}
 use Prim.Native.Nat.{ℕ}
-use Rattle.acs.specs.Promise.{Checked, Routed}
+use Rattle.acs.specs.Promise.{Judged, Routed}
 
-pub check-determined : (snapshot : List ℕ) (now a b : ℕ) → Checked snapshot now a → Checked snapshot now b → a ≡ b
+pub check-determined : (snapshot : List ℕ) (now a b : ℕ) → Judged snapshot now a → Judged snapshot now b → a ≡ b
 check-determined snapshot now a b p q = p .says ∙ sym (q .says)
 
 pub route-determined : (snapshot : List ℕ) (now origin : ℕ) (header before : List ℕ) (a b : ℕ) (x y : List ℕ)

@@ -3,26 +3,24 @@ use mathlib.Core.Path.{_≡_}
 use mathlib.Core.List.{List}
 use Prim.Native.Nat.{ℕ}
 use lib.ListN.{length}
-use Rattle.rules.specs.Refuse.{checked, result, written}
-use Rattle.rules.specs.Word.{tells, wordOf, checkWord}
-use Rattle.snapshot.specs.declared.answers.Check.{Check}
-use Rattle.snapshot.specs.Numbers.{checkedAs}
-use Rattle.route.specs.declared.answer.Answer.{Answer}
-use Rattle.route.specs.Told.{toldOf}
+use Rattle.rules.specs.Refuse.{verdict, result, written}
+use Rattle.rules.specs.declared.Check.{Check}
+use Rattle.rules.specs.declared.Answer.{Answer}
+use Rattle.rules.specs.Word.{resultFields, wordOf, verdictWord, verdictOf, answerFields}
 
 -- acs_check: the word is 0 for an accepted snapshot, else it has the refusal's number and index
-pub record Checked (snapshot : List ℕ) (now word : ℕ) : Type 0 where
-  pub says : word ≡ checkWord (checked snapshot now)
+pub record Judged (snapshot : List ℕ) (now word : ℕ) : Type 0 where
+  pub says : word ≡ verdictWord (verdict snapshot now)
 
 -- acs_route: the word has kind, refusal number or violation letter, node or index, hop count and abort of the answer, and the
 -- buffer ends as the answer leaves it
 pub record Routed (snapshot : List ℕ) (now origin : ℕ) (header before : List ℕ) (word : ℕ) (after : List ℕ) : Type 0 where
-  pub says : word ≡ wordOf (tells (result snapshot now origin header (length before)))
+  pub says : word ≡ wordOf (resultFields (result snapshot now origin header (length before)))
   pub leaves : after ≡ written (result snapshot now origin header (length before)) before
 
 -- the words of the answers that the code is given
 abbrev pub answerWord : Answer → ℕ
-answerWord a = wordOf (toldOf a)
+answerWord a = wordOf (answerFields a)
 
-abbrev pub checkedWord : Check → ℕ
-checkedWord c = checkWord (checkedAs c)
+abbrev pub wordOfCheck : Check → ℕ
+wordOfCheck c = verdictWord (verdictOf c)

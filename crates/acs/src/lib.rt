@@ -1,17 +1,17 @@
 // The C interface: check and route on numbers and byte slices, each answer one word.
-use route::answer::Answer;
+use layout::fields::COMPLEX;
 use route::answer::route;
-use route::hops::COMPLEX;
+use route::refusals::refusal_number;
+use rules::Answer;
+use rules::Check;
 use rules::Letter;
 use rules::Outcome;
-use snapshot::answers::Check;
-use snapshot::answers::refusal_number;
 use snapshot::check::check;
 ghost use mathlib.Core.Path.{_≡_};
 ghost use mathlib.Core.Bool.{cond};
 ghost use Prim.Native.Nat.{_+_, _*_};
-ghost use Rattle.rules.specs.Word.{letterNumber, tellsEnd, wordOf, told};
-ghost use Rattle.acs.specs.Promise.{answerWord, checkedWord, Checked, Routed};
+ghost use Rattle.rules.specs.Word.{letterNumber, endFields, wordOf, fields};
+ghost use Rattle.acs.specs.Promise.{answerWord, wordOfCheck, Judged, Routed};
 
 fn one_if(b: bool) -> u8
     ensures { λ r. ⌜ r ≡ cond b 1 0 ⌝ }
@@ -21,7 +21,7 @@ fn one_if(b: bool) -> u8
 
 // The eight bytes of the answer word, from the low one up.
 fn word(kind: u8, detail: u8, node: u16, count: u16, abort: u8) -> u64
-    ensures { λ r. ⌜ r ≡ wordOf (told kind detail node count abort) ⌝ }
+    ensures { λ r. ⌜ r ≡ wordOf (fields kind detail node count abort) ⌝ }
 {
     (kind as u64)
         + 0x100 * (detail as u64)
@@ -42,7 +42,7 @@ fn letter_number(l: Letter) -> u8
 }
 
 fn end_word(end: Outcome, count: u16) -> u64
-    ensures { λ r. ⌜ r ≡ wordOf (tellsEnd end count) ⌝ }
+    ensures { λ r. ⌜ r ≡ wordOf (endFields end count) ⌝ }
 {
     match end {
         Outcome::Delivered(i, checked) => word(one_if(checked), 0, i, count, 0),
@@ -63,7 +63,7 @@ fn answer_word(a: Answer) -> u64
 }
 
 fn check_word(c: Check) -> u64
-    ensures { λ r. ⌜ r ≡ checkedWord c ⌝ }
+    ensures { λ r. ⌜ r ≡ wordOfCheck c ⌝ }
 {
     match c {
         Check::Accepted => 0,
@@ -74,7 +74,7 @@ fn check_word(c: Check) -> u64
 // 0 for an accepted snapshot, else the refusal word.
 #[no_mangle]
 pub extern "C" fn acs_check(snapshot: &[u8], time: u64) -> u64
-    ensures { λ r. ⌜ Checked (now (snapshot .entry)) time r ⌝ }
+    ensures { λ r. ⌜ Judged (now (snapshot .entry)) time r ⌝ }
 {
     check_word(check(snapshot, time))
 }

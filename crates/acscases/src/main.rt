@@ -3,7 +3,7 @@
 // stream, or at an item that is cut off.
 use libc::STDIN_FILENO;
 use libc::STDOUT_FILENO;
-use words::le_u16;
+use numbers::le_u16;
 ghost use Prim.Native.Nat.{_≤_};
 ghost use lib.ListN.{length};
 

@@ -9,6 +9,8 @@ use Rattle.rules.specs.declared.Letter.the-variants.{Source, Translation, Egres
 use Rattle.rules.specs.declared.Outcome.{Outcome}
 use Rattle.rules.specs.declared.Outcome.the-variants.{Delivered, Host, Unclaimed, Undefined, Violated}
 use Rattle.rules.specs.Route.{Hop, hop, Trip}
+use Rattle.rules.specs.Snapshot.{complex}
+use Rattle.rules.specs.Bound.{roomForAll}
 use Rattle.rules.specs.Refuse.{Result, answered, result}
 
 -- x in n bytes, little-endian
@@ -25,8 +27,8 @@ ranges f l = bytes 8 f ++ bytes 8 l ++ shut ++ shut ++ shut ++ shut ++ shut
 
 -- a port: kind, Port Number, parent, own bus, byte 5, secondary, subordinate; Capability 087Fh, control, vector byte 0; range 0
 unfoldable pub port : ℕ → ℕ → ℕ → ℕ → ℕ → ℕ → ℕ → ℕ → ℕ → ℕ → ℕ → List ℕ
-port kind number parent own place secondary subordinate control vector f l =
-    (kind ∷ number ∷ bytes 2 parent) ++ (own ∷ place ∷ secondary ∷ subordinate ∷ bytes 2 0x087F) ++ bytes 2 control
+port kind number parent own devfn secondary subordinate control vector f l =
+    (kind ∷ number ∷ bytes 2 parent) ++ (own ∷ devfn ∷ secondary ∷ subordinate ∷ bytes 2 0x087F) ++ bytes 2 control
     ++ bytes 4 0 ++ (vector ∷ replicate 31 0) ++ ranges f l
 
 -- a node that is no port: kind, parent, own bus, secondary, subordinate; range 0
@@ -38,7 +40,7 @@ node kind parent own secondary subordinate f l =
 unfoldable pub fabricF : ℕ → ℕ → ℕ → List ℕ
 fabricF flags control vector =
     (0x41 ∷ 0x43 ∷ 0x53 ∷ flags ∷ bytes 2 1) ++ bytes 2 6 ++ bytes 8 0 ++ bytes 8 0
-    ++ port 1 0 0xFFFF 0 8 1 4 control vector 0x80000000 0x803FFFFF
+    ++ port 1 0 complex 0 8 1 4 control vector 0x80000000 0x803FFFFF
     ++ node 2 0 1 2 4 0x80000000 0x803FFFFF
     ++ port 3 1 1 2 0 3 3 control vector 0x80000000 0x800FFFFF
     ++ port 3 2 1 2 8 4 4 control vector 0x80100000 0x801FFFFF
@@ -95,12 +97,12 @@ table =
     ∷ case (set 0x17 0) (request write 2 3 0x80100000) (ends (Violated Translation 2 false) (hop 2 7 ∷ []))  -- F9
     ∷ case (set 0x55 0) (request write 2 3 0x80100000) directly  -- F10
     ∷ case (set 0x00 0) (request write 0 3 0x80300000) (ends (Unclaimed 1) (hop 2 1 ∷ hop 1 7 ∷ []))  -- F11
-    ∷ case (set 0x00 0) (request write 0 3 0x1000) (ends Host (hop 2 1 ∷ hop 0 1 ∷ hop 0xFFFF 7 ∷ []))  -- F12
+    ∷ case (set 0x00 0) (request write 0 3 0x1000) (ends Host (hop 2 1 ∷ hop 0 1 ∷ hop complex 7 ∷ []))  -- F12
     ∷ []
 
 -- the answer to the case's query from origin 4 at time 0, with room for 257 hops
 abbrev pub given : Case → Result Trip
-given c = result (c .snapshot) 0 4 (c .header) 1028
+given c = result (c .snapshot) 0 4 (c .header) roomForAll
 
 -- each case of the list comes out as wanted
 abbrev pub Every : List Case → Type 0

@@ -1,4 +1,4 @@
--- How an input is framed, from the tests of the code; and what the lengths of a whole input tell. Assumes nothing.
+-- How an input is framed, from the tests of the code; and what the lengths of a whole input tell.
 use mathlib.Core.Path.{_≡_, refl, sym, _∙_, ap}
 use mathlib.Core.Bool.{Bool, true, false, cond}
 use mathlib.Core.List.{List}
@@ -44,13 +44,18 @@ frame-case : (t : Bool) (m n : ℕ) → cond t (Whole m) Broken ≡ Whole n → 
 frame-case true m n e = (refl, (cc))
 frame-case false m n e = let z : _≡_ {A = ℕ} 0 1 = cc in absurd (omega arith)
 
-pub whole-length : (b : List ℕ) → whole b ≡ true → length b ≡ headerStart b + headerLength b
-unfolding whole
-whole-length b e = eqb-true (length b) (headerStart b + headerLength b) e
+module _ (b : List ℕ) (n : ℕ) {f : Frame} (hf : f ≡ framed b) (g : f ≡ Whole n) where
+  pub framed-is-whole : whole b ≡ true
+  unfolding framed
+  framed-is-whole = frame-case (whole b) (snapshotLength b) n (sym hf ∙ g) .0
 
-pub framed-lengths : (b : List ℕ) (n : ℕ) {f : Frame} → f ≡ framed b → f ≡ Whole n → (whole b ≡ true) × (n ≡ snapshotLength b)
-unfolding framed
-framed-lengths b n hf g = let (w, e) = frame-case (whole b) (snapshotLength b) n (sym hf ∙ g) in (w, sym e)
+  pub framed-length : length b ≡ headerStart b + headerLength b
+  unfolding whole
+  framed-length = eqb-true (length b) (headerStart b + headerLength b) framed-is-whole
+
+  pub framed-snapshot : n ≡ snapshotLength b
+  unfolding framed
+  framed-snapshot = sym (frame-case (whole b) (snapshotLength b) n (sym hf ∙ g) .1)
 
 pub framed-broken : (b : List ℕ) {f : Frame} → f ≡ framed b → f ≡ Broken → whole b ≡ false
 unfolding framed

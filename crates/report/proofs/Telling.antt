@@ -1,80 +1,35 @@
--- What the router's answer tells is the text of the result that it stands for. Assumes nothing.
+-- What the router's answer resultFields is the text of the result that it stands for.
 use mathlib.Core.Path.{_≡_, refl, sym, _∙_, ap}
-use mathlib.Core.Bool.{true, false, cond}
 use mathlib.Core.List.{List, _++_}
 use Prim.Native.Nat.{ℕ, _+_, _-_, _*_, _≤_}
 use native.Mathlib.Omega.{arith}
-use lib.Dec.{eqb, leb}
 use lib.ListN.{length, take, drop, length-drop}
 use lib.Seq.{take-all}
-use borrow.Author.Tests.{leb-true}
-use Rattle.rules.specs.declared.Letter.{Letter}
-use Rattle.rules.specs.declared.Letter.the-variants.{Source, Translation, Egress, Validation}
 use Rattle.rules.specs.declared.Outcome.{Outcome}
-use Rattle.rules.specs.declared.Outcome.the-variants.{Delivered, Host, Unclaimed, Undefined, Violated}
 use Rattle.rules.specs.Bytes.{le}
-use Rattle.rules.specs.Snapshot.{marked}
 use Rattle.rules.specs.Route.{Trip}
-use Rattle.rules.specs.Refuse.{Result, refused, answered, begun, result, written}
-use Rattle.rules.specs.Word.{Told, tells, tellsEnd}
-use Rattle.rules.proofs.Logic.{both}
-use Rattle.rules.proofs.Accepted.{result-accepted}
+use Rattle.rules.specs.Refuse.{Result, refused, answered, result, written}
+use Rattle.rules.specs.Bound.{mostHops, roomForAll}
+use Rattle.rules.specs.Word.{Fields, numberOf, resultFields, endFields, answerFields}
+use Rattle.rules.specs.Accepted.{Accepted}
+use Rattle.rules.proofs.Gates.{result-answered}
+use Rattle.rules.proofs.Accepted.{accepted}
+use Rattle.rules.proofs.Answers.{endOf, end-back, end-count, end-kind}
 use Rattle.rules.proofs.Theorems.{never-above-257}
-use Rattle.snapshot.specs.declared.answers.Refusal.{Refusal}
-use Rattle.snapshot.specs.Numbers.{numberOf}
-use Rattle.route.specs.declared.answer.Answer.{Answer}
-use Rattle.route.specs.declared.answer.Answer.the-variants.{Refused, Ended}
-use Rattle.route.specs.Told.{toldOf}
-use Rattle.report.specs.Ascii.{ascii}
-use Rattle.report.specs.Framing.{whole, snapshotLength, headerStart, headerLength, snapshotOf, nowOf, originOf, headerOf, answerTo}
-use Rattle.report.specs.Text.{newline, headText, endText, refusalText, answerText, said}
-use Rattle.report.specs.Put.{Put, hopsIn}
-use Rattle.report.proofs.Putting.{named, loose}
-use Rattle.report.proofs.Hopping.{hops-told}
-
--- an outcome read back from its numbers
-
-abbrev lettered : ℕ → Letter
-lettered d = cond (eqb d 0) Source (cond (eqb d 1) Translation (cond (eqb d 5) Egress Validation))
-
-abbrev untold : Told → Outcome
-untold x =
-    cond (eqb (x .kind) 0) (Delivered (x .node) false)
-    (cond (eqb (x .kind) 1) (Delivered (x .node) true)
-    (cond (eqb (x .kind) 2) Host
-    (cond (eqb (x .kind) 3) (Unclaimed (x .node))
-    (cond (eqb (x .kind) 4) (Undefined (x .node))
-    (Violated (lettered (x .detail)) (x .node) (eqb (x .abort) 1))))))
-
-untold-tells : (o : Outcome) (n : ℕ) → untold (tellsEnd o n) ≡ o
-untold-tells (Delivered i true) n = refl
-untold-tells (Delivered i false) n = refl
-untold-tells Host n = refl
-untold-tells (Unclaimed i) n = refl
-untold-tells (Undefined i) n = refl
-untold-tells (Violated Source i true) n = refl
-untold-tells (Violated Source i false) n = refl
-untold-tells (Violated Translation i true) n = refl
-untold-tells (Violated Translation i false) n = refl
-untold-tells (Violated Egress i true) n = refl
-untold-tells (Violated Egress i false) n = refl
-untold-tells (Violated Validation i true) n = refl
-untold-tells (Violated Validation i false) n = refl
-
-no-refusal : (o : Outcome) (n : ℕ) → tellsEnd o n .kind ≤ 5
-no-refusal (Delivered i true) n = omega arith
-no-refusal (Delivered i false) n = omega arith
-no-refusal Host n = omega arith
-no-refusal (Unclaimed i) n = omega arith
-no-refusal (Undefined i) n = omega arith
-no-refusal (Violated l i a) n = omega arith
-
-counted : (o : Outcome) (n : ℕ) → tellsEnd o n .count ≡ n
-counted (Delivered i c) n = refl
-counted Host n = refl
-counted (Unclaimed i) n = refl
-counted (Undefined i) n = refl
-counted (Violated l i a) n = refl
+use Rattle.rules.specs.declared.Refusal.{Refusal}
+use Rattle.rules.specs.declared.Answer.{Answer}
+use Rattle.rules.specs.declared.Answer.the-variants.{Refused, Ended}
+use Rattle.route.specs.Parts.{Answers}
+use Rattle.report.specs.declared.frame.Frame.{Frame}
+use Rattle.report.specs.declared.frame.Frame.the-variants.{Whole, Broken}
+use Rattle.text.specs.Ascii.{ascii}
+use Rattle.report.specs.Framing.{framed, snapshotLength, headerStart, headerLength, snapshotOf, nowOf, originOf, headerOf, answerTo}
+use Rattle.text.specs.Text.{newline, headText, endText, refusalText, answerText}
+use Rattle.report.specs.Printed.{said}
+use Rattle.text.specs.Put.{Put, hopsIn}
+use Rattle.text.proofs.Putting.{named, loose}
+use Rattle.report.proofs.Frames.{framed-is-whole, framed-broken}
+use Rattle.text.proofs.Hopping.{hops-told}
 
 -- the result is an answer with this end and so many hops
 record IsTrip (x : Result Trip) (end : Outcome) (count : ℕ) : Type 0 where
@@ -83,28 +38,34 @@ record IsTrip (x : Result Trip) (end : Outcome) (count : ℕ) : Type 0 where
   ends : end ≡ trip .end
   counts : count ≡ length (trip .hops)
 
-is-trip : (x : Result Trip) (end : Outcome) (count : ℕ) → toldOf (Ended end count) ≡ tells x → IsTrip x end count
+is-trip : (x : Result Trip) (end : Outcome) (count : ℕ) → answerFields (Ended end count) ≡ resultFields x → IsTrip x end count
 is-trip (refused number i) end count e =
-    let k : tellsEnd end count .kind ≡ 6 = ap (λ (t : Told). t .kind) e in let l = no-refusal end count in absurd (omega arith)
+    let k : endFields end count .kind ≡ 6 = ap (λ (t : Fields). t .kind) e in let l = end-kind end count in absurd (omega arith)
 is-trip (answered r) end count e =
     record {
       trip = r;
       is = refl;
-      ends = sym (untold-tells end count) ∙ ap untold e ∙ untold-tells (r .end) (length (r .hops));
-      counts = sym (counted end count) ∙ ap (λ (t : Told). t .count) e ∙ counted (r .end) (length (r .hops));
+      ends = sym (end-back end count) ∙ ap endOf e ∙ end-back (r .end) (length (r .hops));
+      counts = sym (end-count end count) ∙ ap (λ (t : Fields). t .count) e ∙ end-count (r .end) (length (r .hops));
     }
 
 -- a route has a whole header, and few hops
-pub trip-fits : (s : List ℕ) (time origin : ℕ) (h : List ℕ) (room : ℕ) {end : Outcome} {count : ℕ} (a : Answer)
-    → toldOf a ≡ tells (result s time origin h room) → a ≡ Ended end count → (8 ≤ length s) × (count ≤ 257)
-unfolding begun
-trip-fits s time origin h room {end} {count} a told e =
-    let t : IsTrip (result s time origin h room) end count = is-trip (result s time origin h room) end count (sym (ap toldOf e) ∙ told) in
-    let f : length (t .trip .hops) ≤ 257 = never-above-257 s time origin h room (t .trip) (t .is) in
-    let c = t .counts in
-    let b : begun s ≡ true = result-accepted s time origin h room (t .trip) (t .is) .read .begins in
-    let l : 24 ≤ length s = leb-true 24 (length s) (both (leb 24 (length s)) (marked s) b .0) in
-    (omega arith, omega arith)
+module _ (s : List ℕ) (time origin : ℕ) (h b : List ℕ) {a : Answer} {b₁ : List ℕ} {end : Outcome} {count : ℕ}
+    (x : Answers (result s time origin h (length b)) b a b₁) (e : a ≡ Ended end count) where
+  trip : IsTrip (result s time origin h (length b)) end count
+  trip = is-trip (result s time origin h (length b)) end count (sym (ap answerFields e) ∙ x .says)
+
+  pub trip-begins : 8 ≤ length s
+  trip-begins =
+      let ok : Accepted s = accepted s time (result-answered s time origin h (length b) (trip .trip) (trip .is) .read) in
+      let n = ok .size in
+      omega arith
+
+  pub trip-few : count ≤ mostHops
+  trip-few =
+      let f : length (trip .trip .hops) ≤ mostHops = never-above-257 s time origin h (length b) (trip .trip) (trip .is) in
+      let c = trip .counts in
+      omega arith
 
 -- the texts
 
@@ -113,7 +74,7 @@ trip-of : (s : List ℕ) (r : Trip) (hops zeros : List ℕ) → hops ≡ written
 unfolding answerText
 trip-of s r hops zeros w = rw (w, hops-told (r .hops) (drop (4 * length (r .hops)) zeros))
 
-trip-text : (s : List ℕ) (x : Result Trip) (end : Outcome) (count : ℕ) (hops zeros : List ℕ) → toldOf (Ended end count) ≡ tells x
+trip-text : (s : List ℕ) (x : Result Trip) (end : Outcome) (count : ℕ) (hops zeros : List ℕ) → answerFields (Ended end count) ≡ resultFields x
     → hops ≡ written x zeros → headText s ++ (newline ++ (endText end ++ hopsIn hops count)) ≡ answerText s x
 trip-text s x end count hops zeros e w =
     let t : IsTrip x end count = is-trip x end count e in
@@ -122,16 +83,16 @@ trip-text s x end count hops zeros e w =
     ∙ trip-of s (t .trip) hops zeros (w ∙ ap (λ (y : Result Trip). written y zeros) (t .is))
     ∙ sym (ap (answerText s) (t .is))
 
-refused-text : (s : List ℕ) (x : Result Trip) (why : Refusal) (i : ℕ) → toldOf (Refused why i) ≡ tells x
+refused-text : (s : List ℕ) (x : Result Trip) (why : Refusal) (i : ℕ) → answerFields (Refused why i) ≡ resultFields x
     → refusalText (numberOf why) i ≡ answerText s x
 unfolding answerText
 refused-text s (refused number j) why i e =
-    let a : numberOf why ≡ number = ap (λ (t : Told). t .detail) e in
-    let b : i ≡ j = ap (λ (t : Told). t .node) e in
+    let a : numberOf why ≡ number = ap (λ (t : Fields). t .detail) e in
+    let b : i ≡ j = ap (λ (t : Fields). t .node) e in
     rw (a, b)
 refused-text s (answered r) why i e =
-    let k : 6 ≡ tellsEnd (r .end) (length (r .hops)) .kind = ap (λ (t : Told). t .kind) e in
-    let l = no-refusal (r .end) (length (r .hops)) in
+    let k : 6 ≡ endFields (r .end) (length (r .hops)) .kind = ap (λ (t : Fields). t .kind) e in
+    let l = end-kind (r .end) (length (r .hops)) in
     absurd (omega arith)
 
 -- the parts that the code reads are the parts of the input
@@ -144,7 +105,7 @@ module _ (b : List ℕ) (n : ℕ) (long : length b ≡ headerStart b + headerLen
       let e : n + 2 + 11 ≡ headerStart b = omega arith in
       take-all (length b - (n + 2 + 11)) (drop (n + 2 + 11) b) (simp length-drop (omega arith)) ∙ ap (λ (k : ℕ). drop k b) e
 
-  module _ {time origin : ℕ} (ht : time ≡ le 8 b (n + 2)) (ho : origin ≡ le 2 b (n + 2 + 8)) (zeros : List ℕ) (hz : length zeros ≡ 1028) where
+  module _ {time origin : ℕ} (ht : time ≡ le 8 b (n + 2)) (ho : origin ≡ le 2 b (n + 2 + 8)) (zeros : List ℕ) (hz : length zeros ≡ roomForAll) where
     same-time : time ≡ nowOf b
     same-time = let e : n + 2 ≡ 2 + snapshotLength b = omega arith in ht ∙ ap (le 8 b) e
 
@@ -159,30 +120,31 @@ module _ (b : List ℕ) (n : ℕ) (long : length b ≡ headerStart b + headerLen
         ∙ ap (λ (o : ℕ). result (snapshotOf b) (nowOf b) o (headerOf b) (length zeros)) same-origin
         ∙ ap (λ (room : ℕ). result (snapshotOf b) (nowOf b) (originOf b) (headerOf b) room) hz
 
-    module _ (a : Answer)
-        (told : toldOf a ≡ tells (result (take (n + 2 - 2) (drop 2 b)) time origin (take (length b - (n + 2 + 11)) (drop (n + 2 + 11) b)) (length zeros))) where
-      told-answer : toldOf a ≡ tells (answerTo b)
-      told-answer = told ∙ ap tells same-answer
+    module _ {a : Answer} {hops : List ℕ}
+        (x : Answers (result (take (n + 2 - 2) (drop 2 b)) time origin (take (length b - (n + 2 + 11)) (drop (n + 2 + 11) b)) (length zeros))
+        zeros a hops) where
+      says-answer : answerFields a ≡ resultFields (answerTo b)
+      says-answer = x .says ∙ ap resultFields same-answer
 
       pub tell-refused : {why : Refusal} {i : ℕ} {out : List ℕ} {next : ℕ} {after : List ℕ} → a ≡ Refused why i
           → Put 19 out 0 (refusalText (numberOf why) i) next after → Put 3135 out 0 (answerText (snapshotOf b) (answerTo b)) next after
       tell-refused {why} {i} e p =
-          named (refused-text (snapshotOf b) (answerTo b) why i (sym (ap toldOf e) ∙ told-answer)) (loose p (omega arith))
+          named (refused-text (snapshotOf b) (answerTo b) why i (sym (ap answerFields e) ∙ says-answer)) (loose p (omega arith))
 
-      pub tell-trip : {hops : List ℕ} {end : Outcome} {count : ℕ} {out : List ℕ} {next : ℕ} {after : List ℕ}
-          → hops ≡ written (result (take (n + 2 - 2) (drop 2 b)) time origin (take (length b - (n + 2 + 11)) (drop (n + 2 + 11) b)) (length zeros)) zeros
-          → a ≡ Ended end count
+      pub tell-trip : {end : Outcome} {count : ℕ} {out : List ℕ} {next : ℕ} {after : List ℕ} → a ≡ Ended end count
           → Put 3135 out 0 (headText (take (n + 2 - 2) (drop 2 b)) ++ (newline ++ (endText end ++ hopsIn hops count))) next after
           → Put 3135 out 0 (answerText (snapshotOf b) (answerTo b)) next after
-      tell-trip {hops} {end} {count} w e p =
+      tell-trip {end} {count} e p =
           named (ap (λ (s : List ℕ). headText s ++ (newline ++ (endText end ++ hopsIn hops count))) same-snapshot
-          ∙ trip-text (snapshotOf b) (answerTo b) end count hops zeros (sym (ap toldOf e) ∙ told-answer) (w ∙ ap (λ (x : Result Trip). written x zeros) same-answer)) p
+          ∙ trip-text (snapshotOf b) (answerTo b) end count hops zeros (sym (ap answerFields e) ∙ says-answer)
+          (x .leaves ∙ ap (λ (x : Result Trip). written x zeros) same-answer)) p
 
 -- framed or not
-pub said-whole : (b : List ℕ) → whole b ≡ true → said b ≡ answerText (snapshotOf b) (answerTo b)
-unfolding said
-said-whole b e = rw e
+module _ (b : List ℕ) {f : Frame} (hf : f ≡ framed b) {out : List ℕ} {next : ℕ} {after : List ℕ} where
+  pub says-whole : (n : ℕ) → f ≡ Whole n → Put 3135 out 0 (answerText (snapshotOf b) (answerTo b)) next after → Put 3135 out 0 (said b) next after
+  unfolding said
+  says-whole n g p = rw (framed-is-whole b n hf g) p
 
-pub said-broken : (b : List ℕ) → whole b ≡ false → said b ≡ ascii "input"
-unfolding said
-said-broken b e = rw e
+  pub says-broken : f ≡ Broken → Put 5 out 0 (ascii "input") next after → Put 3135 out 0 (said b) next after
+  unfolding said
+  says-broken g p = rw (framed-broken b hf g) (loose p (omega arith))

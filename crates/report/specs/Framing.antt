@@ -7,6 +7,7 @@ use lib.Dec.{eqb}
 use lib.ListN.{length, take, drop}
 use Rattle.rules.specs.Bytes.{byte, le}
 use Rattle.rules.specs.Route.{Trip}
+use Rattle.rules.specs.Bound.{roomForAll}
 use Rattle.rules.specs.Refuse.{Result, result}
 use Rattle.report.specs.declared.frame.Frame.{Frame}
 use Rattle.report.specs.declared.frame.Frame.the-variants.{Whole, Broken}
@@ -48,4 +49,4 @@ headerOf b = drop (headerStart b) b
 
 -- the answer to the query: there is room for 257 hops
 abbrev pub answerTo : List ℕ → Result Trip
-answerTo b = result (snapshotOf b) (nowOf b) (originOf b) (headerOf b) 1028
+answerTo b = result (snapshotOf b) (nowOf b) (originOf b) (headerOf b) roomForAll

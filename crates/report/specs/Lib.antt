@@ -1,4 +1,2 @@
 pub mod Framing
-pub mod Ascii
-pub mod Text
-pub mod Put
+pub mod Printed

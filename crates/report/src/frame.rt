@@ -1,5 +1,5 @@
 // How an input is framed.
-use words::le_u16;
+use numbers::le_u16;
 ghost use mathlib.Core.Path.{_≡_};
 ghost use Rattle.report.specs.Framing.{framed};
 

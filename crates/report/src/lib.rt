@@ -1,32 +1,39 @@
 // The text that `acsroute` prints for its input, byte for byte.
 mod frame;
-mod lines;
-mod put;
 
 use crate::frame::Frame;
 use crate::frame::read_frame;
-use crate::lines::put_end;
-use crate::lines::put_head;
-use crate::lines::put_hops;
-use crate::lines::put_refusal;
-use crate::put::put_byte;
-use crate::put::put_word;
-use route::answer::Answer;
+use numbers::le_u16;
+use numbers::le_u64;
+use route::answer::ROOM_FOR_ALL;
 use route::answer::route;
+use rules::Answer;
 use rules::Outcome;
-use words::le_u16;
-use words::le_u64;
+use text::lines::put_end;
+use text::lines::put_head;
+use text::lines::put_hops;
+use text::lines::put_refusal;
+use text::put::put_byte;
+use text::put::put_word;
 ghost use mathlib.Core.Path.{_≡_};
 ghost use mathlib.Core.List.{_++_};
 ghost use Prim.Native.Nat.{_+_, _≤_};
 ghost use lib.ListN.{length, take, drop};
+ghost use Rattle.rules.specs.Bound.{mostHops};
 ghost use Rattle.report.specs.Framing.{headerStart, headerLength, snapshotLength, snapshotOf, answerTo};
-ghost use Rattle.report.specs.Text.{newline, headText, endText, answerText, said, printed};
-ghost use Rattle.report.specs.Put.{Put, hopsIn};
+ghost use Rattle.text.specs.Text.{newline, headText, endText, answerText};
+ghost use Rattle.report.specs.Printed.{said, printed};
+ghost use Rattle.text.specs.Put.{Put, hopsIn};
 
 // The two lines of an answer: the head, then the outcome with its hops.
-fn put_trip(out: &mut [u8; 4096], s: &[u8], end: Outcome, hops: &[u8; 1028], count: u16) -> usize
-    requires { ⌜ (8 ≤ length (now s)) × (count ≤ 257) ⌝ }
+fn put_trip(
+    out: &mut [u8; 4096],
+    s: &[u8],
+    end: Outcome,
+    hops: &[u8; ROOM_FOR_ALL],
+    count: u16,
+) -> usize
+    requires { ⌜ (8 ≤ length (now s)) × (count ≤ mostHops) ⌝ }
     ensures { λ r. ⌜ Put 3135 (now (out .entry)) 0 (headText (now (s .entry)) ++ (newline ++ (endText end ++ hopsIn (now (hops .entry)) count))) r (now (out .exit)) ⌝ }
 {
     let headed = put_head(out, 0, s);
@@ -47,7 +54,7 @@ fn tell(out: &mut [u8; 4096], input: &[u8], snapshot: u16) -> usize
     let origin = le_u16(input, end + 8);
     let s = &input[2..end];
     let header = &input[start..];
-    let mut hops = [0u8; 1028];
+    let mut hops = [0u8; ROOM_FOR_ALL];
     match route(s, time, origin, header, &mut hops) {
         Answer::Refused(why, i) => put_refusal(out, 0, why, i),
         Answer::Ended(end, count) => put_trip(out, s, end, &hops, count),

@@ -1,7 +1,1 @@
-pub mod Covering
-pub mod Deciding
-pub mod Laid
-pub mod Sinking
-pub mod Rising
-pub mod Answering
-pub mod Once
+pub mod AnswerLaws

@@ -1,8 +1,3 @@
-// Covering, the decision at one port, the way up, the way down and the hops.
+// One query: the refusals 1 to 7 around the walk.
 pub mod answer;
-mod cover;
-mod decide;
-mod down;
-pub mod hops;
-mod table;
-mod up;
+pub mod refusals;

@@ -1,4 +1,4 @@
--- Two snapshots that are alike have one shape. Assumes nothing.
+-- Two snapshots that are alike have one shape.
 use mathlib.Core.Path.{_≡_, refl, ap₂}
 use mathlib.Core.Bool.{false}
 use mathlib.Core.List.{List}
@@ -7,7 +7,7 @@ use native.Mathlib.Omega.{arith}
 use lib.Dec.{leb}
 use borrow.Author.Tests.{lt-leb}
 use Rattle.rules.specs.Bytes.{byte, le, bit}
-use Rattle.rules.specs.Snapshot.{base, count, kind, portNumber, parent, ownBus, place, secondary, subordinate, capability, first, last, rootsReach}
+use Rattle.rules.specs.Snapshot.{base, count, kind, portNumber, parent, ownBus, devfn, secondary, subordinate, capability, first, last, rootsReach}
 use Rattle.rules.specs.Fabric.{inRange, holds, shapeOf}
 use Rattle.rules.specs.Refuse.{isOrigin}
 use Rattle.rules.specs.Tight.{settingByte, Alike}
@@ -50,8 +50,8 @@ module _ (old new : List ℕ) (alike : Alike old new) where
   same-own-bus : (i : ℕ) → ownBus old i ≡ ownBus new i
   same-own-bus i = record-byte (base i + 4) i 4 refl (omega arith) refl
 
-  same-place : (i : ℕ) → place old i ≡ place new i
-  same-place i = record-byte (base i + 5) i 5 refl (omega arith) refl
+  same-devfn : (i : ℕ) → devfn old i ≡ devfn new i
+  same-devfn i = record-byte (base i + 5) i 5 refl (omega arith) refl
 
   same-secondary : (i : ℕ) → secondary old i ≡ secondary new i
   same-secondary i = record-byte (base i + 6) i 6 refl (omega arith) refl
@@ -88,7 +88,7 @@ module _ (old new : List ℕ) (alike : Alike old new) where
         portNumber = λ i. same-port-number i d;
         parent = λ i. same-parent i d;
         ownBus = λ i. same-own-bus i d;
-        place = λ i. same-place i d;
+        devfn = λ i. same-devfn i d;
         secondary = λ i. same-secondary i d;
         subordinate = λ i. same-subordinate i d;
         holds = λ i a. same-holds i a d;

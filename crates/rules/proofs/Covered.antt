@@ -1,4 +1,4 @@
--- Covering goes up the tree, and what that means for a TLP that is sent up. Assumes nothing.
+-- Covering goes up the tree, and what that means for a TLP that is sent up.
 use mathlib.Core.Path.{_≡_, refl, sym, subst}
 use mathlib.Core.Bool.{Bool, true, false, not}
 use Prim.Native.Nat.{ℕ, _≤_, _<_}
@@ -12,21 +12,20 @@ use Rattle.rules.specs.declared.Outcome.the-variants.{Delivered, Host, U
 use Rattle.rules.specs.declared.Landing.{Landing}
 use Rattle.rules.specs.declared.Landing.the-variants.{Arrives, Nobody}
 use Rattle.rules.specs.declared.Down.{Down}
-use Rattle.rules.specs.declared.Down.the-variants.{Into, Below, Alone}
+use Rattle.rules.specs.declared.Down.the-variants.{Into, Lands, Alone}
 use Rattle.rules.specs.declared.Target.{Target}
 use Rattle.rules.specs.declared.Target.the-variants.{Address, Id}
 use Rattle.rules.specs.declared.Tlp.{Tlp}
 use Rattle.rules.specs.Bytes.{within}
-use Rattle.rules.specs.Snapshot.{isRoot, isUpstream, isDownstream, isEndpoint, isPort}
+use Rattle.rules.specs.Snapshot.{isRoot, isUpstream, isDownstream, isEndpoint, isPort, complex}
 use Rattle.rules.specs.Fabric.{Shape, Setting}
 use Rattle.rules.specs.Cover.{coversTarget, covers, isEntry, entryFor}
-use Rattle.rules.specs.Decide.{complex}
 use Rattle.rules.specs.Route.{Trip, landsAt, landed, nextDown, hopDown, down, fromTop, above, hopUp, up}
-use Rattle.rules.specs.Demand.{Nested, WellFormed, wasSentUp, Answerable}
-use Rattle.rules.proofs.Logic.{clash, among-case, both, and-both, either}
+use Rattle.rules.specs.Properties.{Nested, WellFormed, wasSentUp, Answerable}
+use Rattle.rules.proofs.Logic.{contradiction, among-case, both, and-both, either}
 use Rattle.rules.proofs.Loops.{find-none}
 use Rattle.rules.proofs.Sound.{downstream-port, port-no-endpoint}
-use Rattle.rules.proofs.Steps.{Sinks, next-sinks, down-induction, Claims, peer-claims, decide-case, Ascends, ascends, up-induction, entry-in}
+use Rattle.rules.proofs.Steps.{Descending, next-descending, down-induction, Claims, peer-claims, decide-case, Ascends, ascends, up-induction, entry-in}
 
 -- a delivery that is not checked is unvalidated
 abbrev pub unvalidated : Outcome → Bool
@@ -53,14 +52,14 @@ module _ (sh : Shape) (wf : WellFormed sh) where
     -- a record whose parent is a record is no root port
     pub standing : (i : ℕ) → i < sh .count → sh .parent i < sh .count → isRoot (sh .kind i) ≡ false
     standing i l m =
-        either (isRoot (sh .kind i)) (λ r. let e : sh .parent i ≡ 0xFFFF = wf .parentless i l r in absurd (omega arith)) (λ r. r)
+        either (isRoot (sh .kind i)) (λ r. let e : sh .parent i ≡ complex = wf .parentless i l r in absurd (omega arith)) (λ r. r)
 
     -- a sibling of a root port is one
     pub sibling-root : (p q : ℕ) → p < sh .count → q < sh .count → sh .parent q ≡ sh .parent p → isRoot (sh .kind p) ≡ true
         → isRoot (sh .kind q) ≡ true
     sibling-root p q l m e r =
         either (isRoot (sh .kind q)) (λ x. x)
-        (λ n. clash r (standing p l (subst (λ (k : ℕ). k < sh .count) e (parent-present q m n))))
+        (λ n. contradiction r (standing p l (subst (λ (k : ℕ). k < sh .count) e (parent-present q m n))))
 
     -- what stands under a port is no port
     pub under-no-port : (p i : ℕ) → p < sh .count → isPort (sh .kind p) ≡ true → i < sh .count → sh .parent i ≡ p
@@ -70,7 +69,7 @@ module _ (sh : Shape) (wf : WellFormed sh) where
         no-downstream : isDownstream (sh .kind i) ≡ false
         no-downstream =
             either (isDownstream (sh .kind i))
-            (λ d. let two : sh .kind p ≡ 2 = eqb-true _ _ (rw e at (wf .under-upstream i m d)) in clash k (rw two)) (λ d. d)
+            (λ d. let two : sh .kind p ≡ 2 = eqb-true _ _ (rw e at (wf .under-upstream i m d)) in contradiction k (rw two)) (λ d. d)
 
 module _ (sh : Shape) (wf : WellFormed sh) (nest : Nested sh) where
   -- a bus of record i is one of its parent's
@@ -99,10 +98,10 @@ module _ (sh : Shape) (wf : WellFormed sh) (nest : Nested sh) where
   target-above : (i : ℕ) → i < sh .count → isRoot (sh .kind i) ≡ false → (g : Target)
       → coversTarget sh g i ≡ true → coversTarget sh g (sh .parent i) ≡ true
   target-above i l r (Address a) h = nest .holds-above i l r a h
-  target-above i l r (Id bus place) h =
+  target-above i l r (Id bus devfn) h =
       rw (parent-no-endpoint sh wf i l r)
       (either (isEndpoint (sh .kind i))
-      (λ e. own-bus-above i l r (bus .0) (eqb-true _ _ (both (eqb (sh .ownBus i) (bus .0)) (eqb (sh .place i) place) (rw e at h) .0)))
+      (λ e. own-bus-above i l r (bus .0) (eqb-true _ _ (both (eqb (sh .ownBus i) (bus .0)) (eqb (sh .devfn i) devfn) (rw e at h) .0)))
       (λ n. bus-above i l r n (bus .0) (rw n at h)))
 
   pub covers-above : (t : Tlp) (i : ℕ) → i < sh .count → isRoot (sh .kind i) ≡ false → covers sh t i ≡ true
@@ -111,10 +110,12 @@ module _ (sh : Shape) (wf : WellFormed sh) (nest : Nested sh) where
   covers-above t i l r h = target-above i l r (t .target) h
 
   -- what a port or its sibling covers the port above covers
-  pub claimed-above : sh .count ≤ 256 → (t : Tlp) (p q : ℕ) → p < sh .count → isPort (sh .kind p) ≡ true → isRoot (sh .kind p) ≡ false → Claims sh t p q
+  pub claimed-above : sh .count ≤ 256 → (t : Tlp) (p q : ℕ) → p < sh .count → isPort (sh .kind p) ≡ true → isRoot (sh .kind p) ≡ false
+      → Claims sh t p q
       → covers sh t (above sh p) ≡ true
   claimed-above few t p q l k r c =
-      let nr : isRoot (sh .kind q) ≡ false = either (isRoot (sh .kind q)) (λ x. clash (sibling-root sh wf few q p (c .present) l (sym (c .sibling)) x) r) (λ x. x) in
+      let nr : isRoot (sh .kind q) ≡ false =
+      either (isRoot (sh .kind q)) (λ x. contradiction (sibling-root sh wf few q p (c .present) l (sym (c .sibling)) x) r) (λ x. x) in
       let two : isUpstream (sh .kind (sh .parent p)) ≡ true = wf .under-upstream p l (downstream-port (sh .kind p) k r) in
       let at-two : covers sh t (sh .parent p) ≡ true =
       subst (λ (m : ℕ). covers sh t m ≡ true) (c .sibling) (covers-above t q (c .present) nr (c .covering)) in
@@ -125,23 +126,23 @@ module _ (sh : Shape) (wf : WellFormed sh) (nest : Nested sh) where
 -- it lands at a record
 pub landing-present : (sh : Shape) (t : Tlp) (p : ℕ) → p < sh .count → landsAt (down sh t p .landing) < sh .count
 landing-present sh t =
-    down-induction sh t (λ p w. landsAt (w .landing) < sh .count) (λ p l rec. go p l rec (nextDown sh t p) (next-sinks sh t p l))
+    down-induction sh t (λ p w. landsAt (w .landing) < sh .count) (λ p l rec. go p l rec (nextDown sh t p) (next-descending sh t p l))
   where
     go : (p : ℕ) → p < sh .count → ((q : ℕ) → p < q → q < sh .count → landsAt (down sh t q .landing) < sh .count)
-        → (d : Down) → Sinks (sh .count) p d → landsAt (hopDown p d (down sh t) .landing) < sh .count
+        → (d : Down) → Descending (sh .count) p d → landsAt (hopDown p d (down sh t) .landing) < sh .count
     go p l rec (Into q) b = rec q (omega arith) (b .1)
-    go p l rec (Below x) b = b .1
+    go p l rec (Lands x) b = b .1
     go p l rec Alone b = l
 
 -- no hop of it was sent up
 pub down-not-sent : (sh : Shape) (t : Tlp) (p : ℕ) → p < sh .count → wasSentUp (down sh t p .hops) ≡ false
 down-not-sent sh t =
-    down-induction sh t (λ p w. wasSentUp (w .hops) ≡ false) (λ p l rec. go p l rec (nextDown sh t p) (next-sinks sh t p l))
+    down-induction sh t (λ p w. wasSentUp (w .hops) ≡ false) (λ p l rec. go p l rec (nextDown sh t p) (next-descending sh t p l))
   where
     go : (p : ℕ) → p < sh .count → ((q : ℕ) → p < q → q < sh .count → wasSentUp (down sh t q .hops) ≡ false)
-        → (d : Down) → Sinks (sh .count) p d → wasSentUp (hopDown p d (down sh t) .hops) ≡ false
+        → (d : Down) → Descending (sh .count) p d → wasSentUp (hopDown p d (down sh t) .hops) ≡ false
     go p l rec (Into q) b = rec q (omega arith) (b .1)
-    go p l rec (Below x) b = refl
+    go p l rec (Lands x) b = refl
     go p l rec Alone b = refl
 
 pub top-not-sent : (sh : Shape) (t : Tlp) (c : Bool) → wasSentUp (fromTop sh t c .hops) ≡ false
@@ -184,7 +185,7 @@ module _ (sh : Shape) (st : Setting) (t : Tlp) (wf : WellFormed sh) (nest : Nest
   -- a root port that covers the TLP: there is a way down
   entry-some : (q : ℕ) → q < sh .count → isRoot (sh .kind q) ≡ true → covers sh t q ≡ true → entryFor sh t ≡ Nothing → ⊥
   unfolding entryFor isEntry
-  entry-some q l r c none = clash (and-both r c) (find-none (isEntry sh t) (sh .count) 0 none q (omega arith) (omega arith))
+  entry-some q l r c none = contradiction (and-both r c) (find-none (isEntry sh t) (sh .count) 0 none q (omega arith) (omega arith))
 
   -- what a root port reflects because it or a sibling covers it is answerable
   reflected-answerable : (p q : ℕ) → p < sh .count → isRoot (sh .kind p) ≡ true → Claims sh t p q → Answerable (fromTop sh t true .end)
@@ -207,12 +208,12 @@ module _ (sh : Shape) (st : Setting) (t : Tlp) (wf : WellFormed sh) (nest : Nest
         sent-up = λ _ a _ q c r _. rec r (claimed-above sh wf nest few t p q l k r c);
         blocked = λ _ _ _ _ _ _. validation-no-egress;
         reflects = λ _ q c r _ _. reflected-answerable p q l r c;
-        by-e = λ _ n _ _ _ o. clash o n;
-        apart = λ _ n _ _ _ _ o. clash o n;
-        across = λ _ n _ _ _ _ o. clash o n;
-        to-host = λ _ n _ _ o. clash o n;
-        at-parent = λ _ n _ _ _ o. clash o n;
-        addressed = λ _ n _ _ _ o. clash o n;
+        by-e = λ _ n _ _ _ o. contradiction o n;
+        apart = λ _ n _ _ _ _ o. contradiction o n;
+        across = λ _ n _ _ _ _ o. contradiction o n;
+        to-host = λ _ n _ _ o. contradiction o n;
+        at-parent = λ _ n _ _ _ o. contradiction o n;
+        addressed = λ _ n _ _ _ o. contradiction o n;
       })
 
   -- a TLP of which some hop was sent up
@@ -230,10 +231,10 @@ module _ (sh : Shape) (st : Setting) (t : Tlp) (wf : WellFormed sh) (nest : Nest
             covered-answerable (above sh p) (x .present) (x .port) (claimed-above sh wf nest few t p q l k r c);
         blocked = λ _ _ _ _ _ _. validation-no-egress;
         reflects = λ _ q c r _ _. reflected-answerable p q l r c;
-        by-e = λ _ _ _ _ _ s. clash s refl;
-        apart = λ _ _ _ _ _ _ s. clash s refl;
-        across = λ _ _ q e _ _ s. clash s (down-not-sent sh t q (peer-claims sh t p q e .present));
-        to-host = λ _ _ _ _ s. clash s refl;
-        at-parent = λ _ _ _ _ _ s. clash s refl;
+        by-e = λ _ _ _ _ _ s. contradiction s refl;
+        apart = λ _ _ _ _ _ _ s. contradiction s refl;
+        across = λ _ _ q e _ _ s. contradiction s (down-not-sent sh t q (peer-claims sh t p q e .present));
+        to-host = λ _ _ _ _ s. contradiction s refl;
+        at-parent = λ _ _ _ _ _ s. contradiction s refl;
         addressed = λ _ _ _ r _ s. rec r s;
       })

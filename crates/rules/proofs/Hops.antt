@@ -1,4 +1,4 @@
--- How many hops a route makes: D bounds the ports on the way up, and on the way down. Assumes nothing.
+-- How many hops a route makes: D bounds the ports on the way up, and on the way down.
 use mathlib.Core.Path.{_≡_, _∙_, ap}
 use mathlib.Core.Bool.{Bool, true, false, cond}
 use Prim.Native.Nat.{suc-le-suc, ℕ, zero, suc, _+_, _*_, _≤_, _<_, max}
@@ -8,17 +8,19 @@ use lib.Dec.{eqb}
 use lib.ListN.{length}
 use borrow.Author.Tests.{eqb-true, eqb-false}
 use Rattle.rules.specs.declared.Down.{Down}
-use Rattle.rules.specs.declared.Down.the-variants.{Into, Below, Alone}
+use Rattle.rules.specs.declared.Down.the-variants.{Into, Lands, Alone}
 use Rattle.rules.specs.declared.Tlp.{Tlp}
 use Rattle.rules.specs.Snapshot.{isRoot, isUpstream, isDownstream, isPort}
 use Rattle.rules.specs.Fabric.{Shape, Setting}
 use Rattle.rules.specs.Cover.{isEntry, entryFor}
 use Rattle.rules.specs.Route.{Trip, nextDown, hopDown, down, fromTop, above, hopUp, up}
-use Rattle.rules.specs.Demand.{WellFormed}
+use Rattle.rules.specs.Properties.{WellFormed}
 use Rattle.rules.specs.Bound.{portsFrom, ports, most, depth}
-use Rattle.rules.proofs.Logic.{or-false, clash, among-case, either, or-left}
+use Rattle.rules.proofs.Logic.{or-false, contradiction, among-case, either, or-left}
 use Rattle.rules.proofs.Sound.{downstream-port}
-use Rattle.rules.proofs.Steps.{entry-parts, found-in, Sinks, next-sinks, Passes, Leads, next-leads, down-induction, Claims, peer-claims, decide-case, up-induction}
+use Rattle.rules.proofs.Steps.{entry-parts, found-in, Descending, next-descending, Passes, Leads, next-leads, down-induction, Claims, peer-claims}
+use Rattle.rules.proofs.Steps.{decide-case}
+use Rattle.rules.proofs.Steps.{up-induction}
 use Rattle.rules.proofs.Covered.{parent-present, standing, under-no-port}
 
 most-above : (n : ℕ) (f : ℕ → ℕ) (j : ℕ) → j < n → f j ≤ most n f
@@ -87,7 +89,8 @@ module _ (sh : Shape) (wf : WellFormed sh) where
   two-a-level : (n i : ℕ) → i < n → i < sh .count → 2 * ports sh i ≤ i + 1 + cond (isPort (sh .kind i)) 1 0
   two-a-level zero i b l = absurd (not-suc-le-zero b)
   two-a-level (suc n) i b l =
-      either (isRoot (sh .kind i)) (λ r. at-root r) (λ r. either (isPort (sh .kind i)) (λ k. at-port r k (two-a-level n)) (λ k. at-other r k (two-a-level n)))
+      either (isRoot (sh .kind i)) (λ r. at-root r)
+      (λ r. either (isPort (sh .kind i)) (λ k. at-port r k (two-a-level n)) (λ k. at-other r k (two-a-level n)))
     where
       at-root : isRoot (sh .kind i) ≡ true → 2 * ports sh i ≤ i + 1 + cond (isPort (sh .kind i)) 1 0
       at-root r = rw (ports-root i l r, or-left (isRoot (sh .kind i)) (isDownstream (sh .kind i)) r) (omega arith)
@@ -129,7 +132,7 @@ module _ (sh : Shape) (wf : WellFormed sh) where
         let no-root : isRoot (sh .kind (x .via)) ≡ false = or-false (isRoot (sh .kind (x .via))) (isDownstream (sh .kind (x .via))) no-port .0 in
         let q-no-root : isRoot (sh .kind q) ≡ false = standing sh wf few q (x .present) (rw (x .below) (x .via-present)) in
         let q-port : isPort (sh .kind q) ≡ true = either (isPort (sh .kind q)) (λ y. y)
-        (λ n. clash (rw (x .below) at (wf .under-port q (x .present) n)) no-port) in
+        (λ n. contradiction (rw (x .below) at (wf .under-port q (x .present) n)) no-port) in
         let a : ports sh q ≡ 1 + ports sh (x .via) = rw (x .below) at (ports-port q (x .present) q-port q-no-root) in
         let b : ports sh (x .via) ≡ ports sh p = rw (x .via-below) at (ports-other (x .via) (x .via-present) no-port no-root) in
         (q-port, omega arith)
@@ -137,17 +140,17 @@ module _ (sh : Shape) (wf : WellFormed sh) where
     down-hops : (p : ℕ) → p < sh .count → isPort (sh .kind p) ≡ true → length (down sh t p .hops) + ports sh p ≤ depth sh + 2
     down-hops =
         down-induction sh t (λ p w. isPort (sh .kind p) ≡ true → length (w .hops) + ports sh p ≤ depth sh + 2)
-        (λ p l rec k. go p l k rec (nextDown sh t p) (next-sinks sh t p l) (next-leads sh t p l))
+        (λ p l rec k. go p l k rec (nextDown sh t p) (next-descending sh t p l) (next-leads sh t p l))
       where
         go : (p : ℕ) → p < sh .count → isPort (sh .kind p) ≡ true
             → ((q : ℕ) → p < q → q < sh .count → isPort (sh .kind q) ≡ true → length (down sh t q .hops) + ports sh q ≤ depth sh + 2)
-            → (d : Down) → Sinks (sh .count) p d → Leads sh t p d → length (hopDown p d (down sh t) .hops) + ports sh p ≤ depth sh + 2
+            → (d : Down) → Descending (sh .count) p d → Leads sh t p d → length (hopDown p d (down sh t) .hops) + ports sh p ≤ depth sh + 2
         go p l k rec (Into q) b x =
             let (qp, e) = passed-port p q l k x in
             let h : length (down sh t q .hops) + ports sh q ≤ depth sh + 2 = rec q (omega arith) (b .1) qp in
             let e2 : ports sh q ≡ 1 + ports sh p = e in
             omega arith
-        go p l k rec (Below y) b x = let d : ports sh p ≤ depth sh = ports-depth p l in omega arith
+        go p l k rec (Lands y) b x = let d : ports sh p ≤ depth sh = ports-depth p l in omega arith
         go p l k rec Alone b x = let d : ports sh p ≤ depth sh = ports-depth p l in omega arith
 
     pub top-hops : (c : Bool) → length (fromTop sh t c .hops) ≤ depth sh + 1

@@ -2,7 +2,9 @@ pub mod Logic
 pub mod Loops
 pub mod Sound
 pub mod Steps
+pub mod Gates
 pub mod Accepted
+pub mod Answers
 pub mod Covered
 pub mod Alike
 pub mod Tighter

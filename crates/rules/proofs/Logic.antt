@@ -1,4 +1,4 @@
--- Tests taken apart and put together: eliminators of `cond`, `among` and the Boolean operators. Assumes nothing.
+-- Tests taken apart and put together: eliminators of `cond`, `among` and the Boolean operators.
 use mathlib.Core.Path.{_≡_, refl, sym, _∙_, ap}
 use mathlib.Core.Bool.{Bool, true, false, cond, _&&_, _||_, not}
 use Prim.Native.Nat.{ℕ}
@@ -12,8 +12,8 @@ use Rattle.rules.specs.declared.Handling.the-variants.{Direct, Redirect,
 use Rattle.rules.specs.Below.{among}
 
 -- a test cannot both pass and fail
-pub clash : {A : Type 0} {b : Bool} → b ≡ true → b ≡ false → A
-clash p q = let z : _≡_ {A = ℕ} 0 1 = cc in absurd (omega arith)
+pub contradiction : {A : Type 0} {b : Bool} → b ≡ true → b ≡ false → A
+contradiction p q = let z : _≡_ {A = ℕ} 0 1 = cc in absurd (omega arith)
 
 pub cond-case : {A : Type 0} (P : A → Type 0) (b : Bool) {x y : A} → (b ≡ true → P x) → (b ≡ false → P y) → P (cond b x y)
 cond-case P true f g = f refl
@@ -30,7 +30,7 @@ either false f g = g refl
 
 pub both : (a b : Bool) → (a && b) ≡ true → (a ≡ true) × (b ≡ true)
 both true b h = (refl, h)
-both false b h = clash h refl
+both false b h = contradiction h refl
 
 pub and-both : {a b : Bool} → a ≡ true → b ≡ true → (a && b) ≡ true
 and-both p q = rw (p, q)
@@ -43,7 +43,7 @@ and-right-false true b p = p
 and-right-false false b p = refl
 
 pub or-false : (a b : Bool) → (a || b) ≡ false → (a ≡ false) × (b ≡ false)
-or-false true b h = clash refl h
+or-false true b h = contradiction refl h
 or-false false b h = (refl, h)
 
 pub or-case : {A : Type 0} (a b : Bool) → (a || b) ≡ true → (a ≡ true → A) → (b ≡ true → A) → A
@@ -73,7 +73,7 @@ not-false {b} = go b
 
 -- where what a would give does not hold, a fails
 pub implies : {a b : Bool} → (a ≡ true → b ≡ true) → b ≡ false → a ≡ false
-implies {a} h n = either a (λ p. clash (h p) n) (λ q. q)
+implies {a} h n = either a (λ p. contradiction (h p) n) (λ q. q)
 
 -- two tests are equal where each passes with the other
 pub same-test : (a b : Bool) → (a ≡ true → b ≡ true) → (b ≡ true → a ≡ true) → a ≡ b

@@ -1,4 +1,4 @@
--- What a snapshot without a faulty record gives. Assumes nothing.
+-- What a snapshot without a faulty record gives.
 use mathlib.Core.Path.{_≡_, refl}
 use mathlib.Core.Bool.{Bool, true, false, _&&_, _||_, not}
 use mathlib.Core.List.{List, [], _∷_}
@@ -10,11 +10,13 @@ use borrow.Author.Tests.{ltb-true, leb-true, le-leb, eqb-true, eqb-false, ne-eqb
 use Rattle.rules.specs.declared.Found.the-variants.{Nothing}
 use Rattle.rules.specs.Below.{allOf, anyBelow}
 use Rattle.rules.specs.Bytes.{within}
-use Rattle.rules.specs.Snapshot.{count, kind, parent, ownBus, secondary, subordinate, first, last, isOpen, isRoot, isUpstream, isDownstream, isEndpoint, isPort, isBridge}
-use Rattle.rules.specs.Records.{kindFine, standsUnder, parentFine, ofParent, ownBusFine, busOrderFine, busesFine, inside, nestedFine, clashes, rules, fine, faulty, lowestFaulty}
+use Rattle.rules.specs.Snapshot.{count, kind, parent, ownBus, secondary, subordinate, first, last, isOpen, isRoot, isUpstream, isDownstream}
+use Rattle.rules.specs.Snapshot.{isEndpoint, isPort, isBridge, complex}
+use Rattle.rules.specs.Records.{kindFine, standsUnder, parentFine, ofParent, ownBusFine, busOrderFine, inside, nestedFine, rules, fine, Keeps, faulty}
+use Rattle.rules.specs.Records.{lowestFaulty}
 use Rattle.rules.specs.Fabric.{inRange, holds, shapeOf}
-use Rattle.rules.specs.Demand.{WellFormed, Nested}
-use Rattle.rules.proofs.Logic.{clash, leb-trans, both, and-both, or-case, not-true, not-false, or-false}
+use Rattle.rules.specs.Properties.{WellFormed, Nested}
+use Rattle.rules.proofs.Logic.{contradiction, leb-trans, both, and-both, or-case, not-true, not-false, or-false}
 use Rattle.rules.proofs.Loops.{Some, any-some, some-any, all-at, find-none}
 
 -- no faulty record: every record is fine
@@ -29,7 +31,7 @@ all-of-at (b ∷ l) h (suc k) = all-of-at l (both b (allOf l) h .1) k
 
 -- the kinds, told apart
 pub downstream-port : (k : ℕ) → isPort k ≡ true → isRoot k ≡ false → isDownstream k ≡ true
-downstream-port k p r = or-case (isRoot k) (isDownstream k) p (λ q. clash q r) (λ q. q)
+downstream-port k p r = or-case (isRoot k) (isDownstream k) p (λ q. contradiction q r) (λ q. q)
 
 pub downstream-no-root : (k : ℕ) → isDownstream k ≡ true → isRoot k ≡ false
 downstream-no-root k d = let e : k ≡ 3 = eqb-true _ _ d in ne-eqb k 1 (λ z. omega arith)
@@ -42,41 +44,42 @@ pub bridge : (k : ℕ) → 1 ≤ k → k ≤ 4 → isEndpoint k ≡ false → is
 bridge k a b n =
     let d : k ≡ 4 → ⊥ = eqb-false _ _ n in and-both (le-leb 1 k a) (le-leb k 3 (omega (arith, d)))
 
-module _ (s : List ℕ) (i : ℕ) (ok : fine s i ≡ true) where
-  -- rule k of document 01's order
-  rule : (k : ℕ) → getD (rules s i) k true ≡ true
-  unfolding fine
-  rule k = all-of-at (rules s i) ok k
+-- the rules that a record which is fine keeps, by name
+pub keeps : (s : List ℕ) (i : ℕ) → fine s i ≡ true → Keeps s i
+unfolding fine
+keeps s i ok =
+    let rule : (k : ℕ) → getD (rules s i) k true ≡ true = all-of-at (rules s i) ok in
+    record {
+      kinds = rule 0;
+      parents = rule 1;
+      only-child = rule 2;
+      blanks = rule 3;
+      own-bus = rule 4;
+      bus-order = rule 5;
+      buses-apart = rule 6;
+      numbers-apart = rule 7;
+      ranges = rule 8;
+      own-ranges-apart = rule 9;
+      ranges-apart = rule 10;
+      nested = rule 11;
+      capabilities = rule 12;
+      controls = rule 13;
+    }
 
-  kind-rule : kindFine s i ≡ true
-  kind-rule = rule 0
-
-  parent-rule : parentFine s i ≡ true
-  parent-rule = rule 1
-
-  buses-rule : (ownBusFine s i && busOrderFine s i) ≡ true
-  unfolding busesFine
-  buses-rule = rule 3
-
-  nested-rule : nestedFine s i ≡ true
-  nested-rule = rule 6
-
-  pub clashes-rule : clashes s i ≡ false
-  clashes-rule = not-true (rule 8)
-
+module _ (s : List ℕ) (i : ℕ) (ok : Keeps s i) where
   pub kind-range : (1 ≤ kind s i) × (kind s i ≤ 4)
   unfolding kindFine
   kind-range =
-      let w = both (leb 1 (kind s i)) (leb (kind s i) 4) (both (within 1 (kind s i) 4) _ kind-rule .0) in
+      let w = both (leb 1 (kind s i)) (leb (kind s i) 4) (both (within 1 (kind s i) 4) _ (ok .kinds) .0) in
       (leb-true _ _ (w .0), leb-true _ _ (w .1))
 
   stands : isRoot (kind s i) ≡ false → (ltb (parent s i) i ≡ true) × (standsUnder (kind s i) (kind s (parent s i)) ≡ true)
   unfolding parentFine
-  stands r = both (ltb (parent s i) i) (standsUnder (kind s i) (kind s (parent s i))) (rw r at parent-rule)
+  stands r = both (ltb (parent s i) i) (standsUnder (kind s i) (kind s (parent s i))) (rw r at (ok .parents))
 
-  no-parent : isRoot (kind s i) ≡ true → parent s i ≡ 0xFFFF
+  no-parent : isRoot (kind s i) ≡ true → parent s i ≡ complex
   unfolding parentFine
-  no-parent r = eqb-true _ _ (rw r at parent-rule)
+  no-parent r = eqb-true _ _ (rw r at (ok .parents))
 
   upstream-above : isDownstream (kind s i) ≡ true → isUpstream (kind s (parent s i)) ≡ true
   upstream-above d = rw d at (stands (downstream-no-root (kind s i) d) .1)
@@ -86,16 +89,19 @@ module _ (s : List ℕ) (i : ℕ) (ok : fine s i ≡ true) where
       let e = or-false (isRoot (kind s i)) (isDownstream (kind s i)) n in rw (e .1) at (stands (e .0) .1)
 
   own-bus-above : isRoot (kind s i) ≡ false → ownBus s i ≡ secondary s (parent s i)
-  own-bus-above r = eqb-true _ _ (rw r at (both (ownBusFine s i) (busOrderFine s i) buses-rule .0))
+  unfolding ownBusFine
+  own-bus-above r = eqb-true _ _ (rw r at (ok .own-bus))
 
   -- the three tests of a bridge's buses
   bus-order : isEndpoint (kind s i) ≡ false
       → (ltb (ownBus s i) (secondary s i) ≡ true) × (leb (secondary s i) (subordinate s i) ≡ true)
       × (leb (subordinate s i) (ofParent s i 255 subordinate) ≡ true)
+  unfolding busOrderFine
   bus-order n =
       let three : (ltb (ownBus s i) (secondary s i) && leb (secondary s i) (subordinate s i) && leb (subordinate s i) (ofParent s i 255 subordinate)) ≡ true =
-      rw (bridge (kind s i) (kind-range .0) (kind-range .1) n) at (both (ownBusFine s i) (busOrderFine s i) buses-rule .1) in
-      let (two, c) = both (ltb (ownBus s i) (secondary s i) && leb (secondary s i) (subordinate s i)) (leb (subordinate s i) (ofParent s i 255 subordinate)) three in
+      rw (bridge (kind s i) (kind-range .0) (kind-range .1) n) at (ok .bus-order) in
+      let (two, c) =
+      both (ltb (ownBus s i) (secondary s i) && leb (secondary s i) (subordinate s i)) (leb (subordinate s i) (ofParent s i 255 subordinate)) three in
       let (a, b) = both (ltb (ownBus s i) (secondary s i)) (leb (secondary s i) (subordinate s i)) two in
       (a, b, c)
 
@@ -110,8 +116,8 @@ module _ (s : List ℕ) (i : ℕ) (ok : fine s i ≡ true) where
   unfolding nestedFine
   nested r k l o =
       or-case (not (isOpen s i k)) (anyBelow 2 (inside s i k (parent s i)))
-      (all-at 6 (λ k. not (isOpen s i k) || anyBelow 2 (inside s i k (parent s i))) (rw r at nested-rule) k l)
-      (λ c. clash o (not-true c))
+      (all-at 6 (λ k. not (isOpen s i k) || anyBelow 2 (inside s i k (parent s i))) (rw r at (ok .nested)) k l)
+      (λ c. contradiction o (not-true c))
       (λ a. any-some 2 (inside s i k (parent s i)) a)
 
 -- an address in open range k
@@ -132,7 +138,7 @@ inside-in s i k p m a h r =
     let (_, f, l) = in-parts s i a k r in
     and-both o (and-both (leb-trans (first s p m) (first s i k) a h3 f) (leb-trans a (last s i k) (last s p m) l h4))
 
-holds-nest : (s : List ℕ) (i : ℕ) → fine s i ≡ true → isRoot (kind s i) ≡ false
+holds-nest : (s : List ℕ) (i : ℕ) → Keeps s i → isRoot (kind s i) ≡ false
     → (a : ℕ) → holds s i a ≡ true → holds s (parent s i) a ≡ true
 unfolding holds
 holds-nest s i ok r a h =
@@ -141,28 +147,28 @@ holds-nest s i ok r a h =
     some-any 6 (inRange s (parent s i) a) (y .which) (omega arith)
     (inside-in s i (x .which) (parent s i) (y .which) a (y .passes) (x .passes))
 
-pub well-formed : (s : List ℕ) → ((i : ℕ) → i < count s → fine s i ≡ true) → WellFormed (shapeOf s)
-unfolding shapeOf
-well-formed s ok =
-    record {
-      lower = λ i l r. ltb-true _ _ (stands s i (ok i l) r .0);
-      parentless = λ i l r. no-parent s i (ok i l) r;
-      under-upstream = λ i l d. upstream-above s i (ok i l) d;
-      under-port = λ i l n. port-above s i (ok i l) n;
-    }
+-- what the rules of an accepted snapshot's records give
 
-pub nested-covers : (s : List ℕ) → ((i : ℕ) → i < count s → fine s i ≡ true) → Nested (shapeOf s)
-unfolding shapeOf
-nested-covers s ok =
-    record {
-      holds-above = λ i l r. holds-nest s i (ok i l) r;
-      own-bus = λ i l r. own-bus-above s i (ok i l) r;
-      buses = λ i l n. buses-in-order s i (ok i l) n;
-      buses-above = λ i l r n. buses-inside s i (ok i l) r n;
-    }
+module _ (s : List ℕ) (clean : lowestFaulty s ≡ Nothing) where
+  pub all-keep : (i : ℕ) → i < count s → Keeps s i
+  all-keep i l = keeps s i (all-fine s clean i l)
 
-pub no-fault-well-formed : (s : List ℕ) → lowestFaulty s ≡ Nothing → WellFormed (shapeOf s)
-no-fault-well-formed s h = well-formed s (all-fine s h)
+  pub well-formed : WellFormed (shapeOf s)
+  unfolding shapeOf
+  well-formed =
+      record {
+        lower = λ i l r. ltb-true _ _ (stands s i (all-keep i l) r .0);
+        parentless = λ i l r. no-parent s i (all-keep i l) r;
+        under-upstream = λ i l d. upstream-above s i (all-keep i l) d;
+        under-port = λ i l n. port-above s i (all-keep i l) n;
+      }
 
-pub no-fault-nested : (s : List ℕ) → lowestFaulty s ≡ Nothing → Nested (shapeOf s)
-no-fault-nested s h = nested-covers s (all-fine s h)
+  pub nested-covers : Nested (shapeOf s)
+  unfolding shapeOf
+  nested-covers =
+      record {
+        holds-above = λ i l r. holds-nest s i (all-keep i l) r;
+        own-bus = λ i l r. own-bus-above s i (all-keep i l) r;
+        buses = λ i l n. buses-in-order s i (all-keep i l) n;
+        buses-above = λ i l r n. buses-inside s i (all-keep i l) r n;
+      }

@@ -1,4 +1,4 @@
--- The walks without their fuel: one step down, one step up, and what each decision leads to. Assumes nothing.
+-- The walks without their fuel: one step down, one step up, and what each decision leads to.
 use mathlib.Core.Path.{_≡_, refl, sym, ap, subst}
 use mathlib.Core.Bool.{Bool, true, false, _&&_, not}
 use Prim.Native.Nat.{ℕ, zero, suc, _+_, _-_, _≤_, _<_}
@@ -11,17 +11,18 @@ use Rattle.rules.specs.declared.Handling.the-variants.{Direct, Redirect,
 use Rattle.rules.specs.declared.Letter.the-variants.{Source, Translation, Egress, Validation}
 use Rattle.rules.specs.declared.Outcome.the-variants.{Host, Unclaimed, Undefined}
 use Rattle.rules.specs.declared.Down.{Down}
-use Rattle.rules.specs.declared.Down.the-variants.{Into, Below, Alone}
+use Rattle.rules.specs.declared.Down.the-variants.{Into, Lands, Alone}
 use Rattle.rules.specs.declared.Move.{Move}
 use Rattle.rules.specs.declared.Move.the-variants.{Up, Across, Reflect, Stop, Beyond}
 use Rattle.rules.specs.declared.Tlp.{Tlp}
 use Rattle.rules.specs.Below.{findFrom}
-use Rattle.rules.specs.Snapshot.{isRoot, isUpstream, isEndpoint, isPort}
+use Rattle.rules.specs.Snapshot.{isRoot, isUpstream, isEndpoint, isPort, complex}
 use Rattle.rules.specs.Fabric.{Shape, Setting}
 use Rattle.rules.specs.Cover.{covers, isPeer, peerOf, isEntry, entryFor, isChild, childFor, isWayOn, wayOn}
-use Rattle.rules.specs.Decide.{complex, asAddressed, redirectedUp, upByU, directToPeer, violation, blocks, atTheTop, sentUp, badSource, badTranslation, ownRange, peerHandling, direct, handled, toPeer, pastParent, onward, decide}
+use Rattle.rules.specs.Decide.{asAddressed, redirectedUp, upByU, directToPeer, violation, blocks, atTheTop, sentUp, badSource, badTranslation}
+use Rattle.rules.specs.Decide.{ownRange, peerHandling, direct, handled, toPeer, pastParent, onward, decide}
 use Rattle.rules.specs.Route.{Trip, Way, landsAt, throughChild, nextDown, hopDown, downFrom, down, above, hopUp, upFrom, up}
-use Rattle.rules.specs.Demand.{WellFormed}
+use Rattle.rules.specs.Properties.{WellFormed}
 use Rattle.rules.proofs.Logic.{cond-case, among-case, both}
 use Rattle.rules.proofs.Loops.{Hit, find-in}
 use Rattle.rules.proofs.Sound.{downstream-port}
@@ -62,10 +63,10 @@ way-parts sh t c q h = let (e, x) = both (eqb (sh .parent q) c) (covers sh t q) 
 -- going down
 
 -- where a decision on the way down leads: above p, and to a record
-abbrev pub Sinks : ℕ → ℕ → Down → Type 0
-Sinks n p (Into q) = (p + 1 < q) × (q < n)
-Sinks n p (Below l) = (p < landsAt l) × (landsAt l < n)
-Sinks n p Alone = Unit {0}
+abbrev pub Descending : ℕ → ℕ → Down → Type 0
+Descending n p (Into q) = (p + 1 < q) × (q < n)
+Descending n p (Lands l) = (p < landsAt l) × (landsAt l < n)
+Descending n p Alone = Unit {0}
 
 -- port q stands under a child of port p, and covers the TLP
 pub record Passes (sh : Shape) (t : Tlp) (p q : ℕ) : Type 0 where
@@ -79,24 +80,24 @@ pub record Passes (sh : Shape) (t : Tlp) (p q : ℕ) : Type 0 where
 
 abbrev pub Leads : Shape → Tlp → ℕ → Down → Type 0
 Leads sh t p (Into q) = Passes sh t p q
-Leads sh t p (Below l) = Unit {0}
+Leads sh t p (Lands l) = Unit {0}
 Leads sh t p Alone = Unit {0}
 
 module _ (sh : Shape) (t : Tlp) where
-  child-sinks : (p c : ℕ) → p < c → c < sh .count → Sinks (sh .count) p (throughChild sh t c)
+  child-descending : (p c : ℕ) → p < c → c < sh .count → Descending (sh .count) p (throughChild sh t c)
   unfolding throughChild wayOn
-  child-sinks p c a b =
-      cond-case (Sinks (sh .count) p) (not (covers sh t c)) (λ _. (a, b)) λ _.
-      cond-case (Sinks (sh .count) p) (isEndpoint (sh .kind c)) (λ _. (a, b)) λ _.
-      among-case (Sinks (sh .count) p) (wayOn sh t c)
+  child-descending p c a b =
+      cond-case (Descending (sh .count) p) (not (covers sh t c)) (λ _. (a, b)) λ _.
+      cond-case (Descending (sh .count) p) (isEndpoint (sh .kind c)) (λ _. (a, b)) λ _.
+      among-case (Descending (sh .count) p) (wayOn sh t c)
       (λ q e. let x : (c < q) × (q < sh .count) × (isWayOn sh t c q ≡ true) = found-after sh c (isWayOn sh t c) q b e in (omega arith, x .1))
       (λ _. (a, b))
 
-  pub next-sinks : (p : ℕ) → p < sh .count → Sinks (sh .count) p (nextDown sh t p)
+  pub next-descending : (p : ℕ) → p < sh .count → Descending (sh .count) p (nextDown sh t p)
   unfolding nextDown childFor
-  next-sinks p l =
-      among-case (Sinks (sh .count) p) (childFor sh t p)
-      (λ c e. let x = found-after sh p (isChild sh t p) c l e in child-sinks p c (x .0) (x .1)) (λ _. tt)
+  next-descending p l =
+      among-case (Descending (sh .count) p) (childFor sh t p)
+      (λ c e. let x = found-after sh p (isChild sh t p) c l e in child-descending p c (x .0) (x .1)) (λ _. tt)
 
   way-on-from : (p c : ℕ) → p < c → c < sh .count → sh .parent c ≡ p → Leads sh t p (throughChild sh t c)
   unfolding throughChild wayOn
@@ -116,10 +117,10 @@ module _ (sh : Shape) (t : Tlp) where
       among-case (Leads sh t p) (childFor sh t p)
       (λ c h. let (a, b, x) = found-after sh p (isChild sh t p) c l h in way-on-from p c a b (eqb-true _ _ x)) (λ _. tt)
 
-  hop-same : (n p : ℕ) (d : Down) (on on′ : ℕ → Way) → Sinks n p d → ((q : ℕ) → p < q → q < n → on q ≡ on′ q)
+  hop-same : (n p : ℕ) (d : Down) (on on′ : ℕ → Way) → Descending n p d → ((q : ℕ) → p < q → q < n → on q ≡ on′ q)
       → hopDown p d on ≡ hopDown p d on′
   hop-same n p (Into q) on on′ b h = ap (λ (w : Way). hopDown p (Into q) (λ _. w)) (h q (omega arith) (b .1))
-  hop-same n p (Below l) on on′ b h = refl
+  hop-same n p (Lands l) on on′ b h = refl
   hop-same n p Alone on on′ b h = refl
 
   -- fuel that reaches past the last record is enough
@@ -128,7 +129,7 @@ module _ (sh : Shape) (t : Tlp) where
   down-fuel zero g p l a b = absurd (omega arith)
   down-fuel (suc f) zero p l a b = absurd (omega arith)
   down-fuel (suc f) (suc g) p l a b =
-      hop-same (sh .count) p (nextDown sh t p) (downFrom sh t f) (downFrom sh t g) (next-sinks p l)
+      hop-same (sh .count) p (nextDown sh t p) (downFrom sh t f) (downFrom sh t g) (next-descending p l)
       (λ q m k. down-fuel f g q k (omega arith) (omega arith))
 
   pub down-step : (p : ℕ) → p < sh .count → down sh t p ≡ hopDown p (nextDown sh t p) (down sh t)
@@ -188,7 +189,8 @@ handled-case Q sh t p q Redirect a b c = b refl
 handled-case Q sh t p q Violation a b c = c refl
 
 module _ (sh : Shape) (st : Setting) (t : Tlp) (p : ℕ) (here : p < sh .count) (port : isPort (sh .kind p) ≡ true) where
-  sent-case : (Q : Move → Type 0) → DecideCases sh st t p Q → Passed sh st t p → (q : ℕ) → Claims sh t p q → (a : ℕ) → eqb a asAddressed ≡ false
+  sent-case : (Q : Move → Type 0) → DecideCases sh st t p Q → Passed sh st t p → (q : ℕ) → Claims sh t p q → (a : ℕ)
+      → eqb a asAddressed ≡ false
       → Q (sentUp sh t p a)
   unfolding sentUp atTheTop
   sent-case Q c ok q x a n =
@@ -305,4 +307,5 @@ up-induction sh st t wf Q h p l k = go (suc p) p l k (omega arith)
     go : (n p : ℕ) → p < sh .count → isPort (sh .kind p) ≡ true → p < n → Q p (up sh st t p)
     go zero p l k b = absurd (omega arith)
     go (suc n) p l k b =
-        subst (Q p) (sym (up-step sh st t wf p l k)) (h p l k (λ r. let x : Ascends sh p = ascends sh wf p l k r in go n (above sh p) (x .present) (x .port) (omega arith)))
+        subst (Q p) (sym (up-step sh st t wf p l k))
+        (h p l k (λ r. let x : Ascends sh p = ascends sh wf p l k r in go n (above sh p) (x .present) (x .port) (omega arith)))

@@ -1,4 +1,4 @@
--- Settings of every port under which nothing is undefined, and nothing is delivered unvalidated. Assumes nothing.
+-- Settings of every port under which nothing is undefined, and nothing is delivered unvalidated.
 use mathlib.Core.Path.{_≡_, refl, sym, _∙_}
 use mathlib.Core.Bool.{cond, _&&_, Bool, true, false}
 use mathlib.Core.List.{List}
@@ -17,8 +17,8 @@ use Rattle.rules.specs.Fabric.{Shape, shapeOf, settingOf}
 use Rattle.rules.specs.Cover.{entryFor}
 use Rattle.rules.specs.Decide.{handling, vectorNumber, badTranslation, peerHandling}
 use Rattle.rules.specs.Route.{Trip, landed, down, fromTop, hopUp, up}
-use Rattle.rules.specs.Demand.{WellFormed, EveryU, LockedAt, Locked}
-use Rattle.rules.proofs.Logic.{clash, among-case, and-both, and-right-false, implies, redirect-no-direct}
+use Rattle.rules.specs.Properties.{WellFormed, EveryU, LockedAt, Locked}
+use Rattle.rules.proofs.Logic.{contradiction, among-case, and-both, and-right-false, implies, redirect-no-direct}
 use Rattle.rules.proofs.Steps.{decide-case, up-induction}
 use Rattle.rules.proofs.Covered.{unvalidated, checked-validated}
 
@@ -54,7 +54,7 @@ module _ (s : List ℕ) (t : Tlp) (wf : WellFormed (shapeOf s)) where
       (record {
         by-v = λ _. refl;
         by-b = λ _ _. refl;
-        undefined = λ _ _ off. clash (every p (l, k)) off;
+        undefined = λ _ _ off. contradiction (every p (l, k)) off;
         sent-up = λ _ _ _ _ _ r. rec r;
         blocked = λ _ _ _ _ _. refl;
         reflects = λ _ _ _ _ _. top-defined (shapeOf s) t _;
@@ -68,10 +68,10 @@ module _ (s : List ℕ) (t : Tlp) (wf : WellFormed (shapeOf s)) where
 
   module _ (req : t .request ≡ true) where
     -- B on lets only an untranslated request pass
-    untranslated : (p : ℕ) → settingOf s .b p ≡ true → badTranslation (settingOf s) t p ≡ false → eqb (t .translation) 2 ≡ false
+    untranslated : (p : ℕ) → settingOf s .b p ≡ true → badTranslation (settingOf s) t p ≡ false → eqb (t .«address_type») 2 ≡ false
     unfolding badTranslation
     untranslated p b ok =
-        implies (λ two. let e : t .translation ≡ 2 = eqb-true _ _ two in and-both (and-both req b) (rw e)) ok
+        implies (λ two. let e : t .«address_type» ≡ 2 = eqb-true _ _ two in and-both (and-both req b) (rw e)) ok
 
     -- so that with R on and E off a peer gets nothing directly
     never-direct : (p q : ℕ) → LockedAt s p → badTranslation (settingOf s) t p ≡ false → peerHandling (shapeOf s) (settingOf s) t p q ≡ Redirect

@@ -1,5 +1,5 @@
 -- What holds of a fleet's settings, of snapshots as bytes and of the very definitions that the library's promises cite.
--- Each statement needs only itself and the definitions that it names. Assumes nothing.
+-- Each statement needs only itself and the definitions that it names.
 use mathlib.Core.Path.{_≡_, refl, sym, _∙_, ap, subst}
 use mathlib.Core.Bool.{true, false}
 use mathlib.Core.List.{List}
@@ -10,24 +10,24 @@ use lib.ListN.{length}
 use borrow.Author.Tests.{le-leb, eqb-true}
 use Rattle.rules.specs.declared.Outcome.the-variants.{Delivered, Undefined}
 use Rattle.rules.specs.Bytes.{byte}
-use Rattle.rules.specs.Snapshot.{parent, kind, isRoot}
+use Rattle.rules.specs.Snapshot.{parent, kind, isRoot, complex}
 use Rattle.rules.specs.Fabric.{Shape, shapeOf, settingOf}
 use Rattle.rules.specs.Tlp.{isRequest, tlpOf}
 use Rattle.rules.specs.declared.Tlp.{Tlp}
 use Rattle.rules.specs.Cover.{covers}
-use Rattle.rules.specs.Decide.{complex}
 use Rattle.rules.specs.Route.{Trip, above, up}
-use Rattle.rules.specs.Refuse.{refused, answered, through, fits, checked, routed, result}
-use Rattle.rules.specs.Demand.{AreBytes, OneWay, IsPort, IsEndpoint, EveryU, Locked, wasSentUp, portAbove, Answerable}
+use Rattle.rules.specs.Refuse.{refused, answered, through, fits, verdict, routed, result}
+use Rattle.rules.specs.Properties.{AreBytes, OneWay, IsPort, IsEndpoint, EveryU, Locked, wasSentUp, portAbove, Answerable}
+use Rattle.rules.specs.Accepted.{Accepted}
 use Rattle.rules.specs.Tight.{Alike, AtLeastAsTight}
 use Rattle.rules.specs.Bound.{ports, depth, hopBound, mostHops, roomForAll}
-use Rattle.rules.proofs.Logic.{clash}
-use Rattle.rules.proofs.Sound.{all-fine, no-fault-nested}
-use Rattle.rules.proofs.Entered.{host-route, endpoint-answer, any-answer, Fit, readable-fit, Entered, endpoint-entered, endpoint-route, origin-case}
-use Rattle.rules.proofs.Accepted.{Readable, Accepted, accepted-read, result-past, result-accepted, accepted-result}
+use Rattle.rules.proofs.Logic.{contradiction}
+use Rattle.rules.proofs.Entered.{host-route, endpoint-answer, any-answer, Entered, endpoint-entered, endpoint-route, few-hops}
+use Rattle.rules.proofs.Gates.{Answered, result-past, result-answered, answered-result}
+use Rattle.rules.proofs.Accepted.{accepted}
 use Rattle.rules.proofs.Covered.{unvalidated, claimed-above, top-not-sent, sent-answerable}
 use Rattle.rules.proofs.Steps.{Ascends, ascends}
-use Rattle.rules.proofs.Hops.{ports-depth, depth-most, top-hops, up-hops}
+use Rattle.rules.proofs.Hops.{ports-depth, top-hops, up-hops}
 use Rattle.rules.proofs.Unique.{one-way}
 use Rattle.rules.proofs.Alike.{same-count, same-kind, same-shape, same-origin}
 use Rattle.rules.proofs.Tighter.{tight-up}
@@ -38,28 +38,29 @@ use Rattle.rules.proofs.Strict.{isUndefined, top-defined, up-defined, u
 pub tighter-never-opens :
     (old new : List ℕ) (now o : ℕ) (h : List ℕ) (room : ℕ) (r : Trip) (i : ℕ)
     → AreBytes new → Alike old new → AtLeastAsTight old new
-    → checked old now ≡ answered tt
+    → verdict old now ≡ answered tt
     → result new now o h room ≡ answered r
     → IsEndpoint new o → isRequest (byte h 0) ≡ true
     → r .end ≡ Delivered i false
     → result old now o h room ≡ answered r
 unfolding shapeOf tlpOf
 tighter-never-opens old new now o h room r i bytes alike tight ok ans e req del =
-    let a : Accepted new now o h room r = result-accepted new now o h room r ans in
-    let was : Readable old now = accepted-read old now ok in
-    let fit : Fit new = readable-fit new now (a .read) in
-    let inn : Entered (shapeOf new) (shapeOf new .parent o) = endpoint-entered new (fit .formed) o e in
+    let a : Answered new now o h room r = result-answered new now o h room r ans in
+    let was : Accepted old = accepted old now ok in
+    let is : Accepted new = accepted new now (a .read) in
+    let inn : Entered (shapeOf new) (shapeOf new .parent o) = endpoint-entered new (is .formed) o e in
     let e-old : IsEndpoint old o = rw (same-count old new alike, same-kind old new alike o) e in
-    let now-up : up (shapeOf new) (settingOf new) (tlpOf h) (shapeOf new .parent o) ≡ r = sym (endpoint-route new o h (fit .few) e) ∙ a .route-is in
+    let now-up : up (shapeOf new) (settingOf new) (tlpOf h) (shapeOf new .parent o) ≡ r = sym (endpoint-route new o h (is .few) e) ∙ a .route-is in
     let one : up (shapeOf new) (settingOf old) (tlpOf h) (shapeOf new .parent o) ≡ up (shapeOf new) (settingOf new) (tlpOf h) (shapeOf new .parent o) =
-    tight-up old new bytes alike tight (tlpOf h) req (fit .formed) (no-fault-nested new (fit .faultless)) (fit .few) (shapeOf new .parent o) (inn .present) (inn .port)
+    tight-up old new bytes alike tight (tlpOf h) req (is .formed) (is .nested) (is .few) (shapeOf new .parent o) (inn .present) (inn .port)
     (ap (λ (x : Trip). unvalidated (x .end)) now-up ∙ ap unvalidated del) in
-    accepted-result old now o h room r
+    answered-result old now o h room r
     (record {
-      read = was;
-      asked = record { origin = same-origin old new alike o ∙ a .asked .origin; header = a .asked .header };
+      read = ok;
+      origin = same-origin old new alike o ∙ a .origin;
+      header = a .header;
       room-for = a .room-for;
-      route-is = endpoint-route old o h (readable-fit old now was .few) e-old
+      route-is = endpoint-route old o h (was .few) e-old
           ∙ ap (λ (sh : Shape). up sh (settingOf old) (tlpOf h) (sh .parent o)) (same-shape old new alike) ∙ one ∙ now-up;
     })
 
@@ -70,9 +71,9 @@ pub nothing-undefined :
     → result s now o h room ≡ answered r
     → r .end ≡ Undefined p → ⊥
 nothing-undefined s now o h room r p every ans und =
-    clash (ap isUndefined und)
+    contradiction (ap isUndefined und)
     (any-answer s now o h room r ans (λ (x : Trip). isUndefined (x .end) ≡ false) (top-defined (shapeOf s) (tlpOf h) false)
-    (λ fit. up-defined s (tlpOf h) (fit .formed) every))
+    (λ is. up-defined s (tlpOf h) (is .formed) every))
 
 -- 3. The lock. With V, B and R on and E off besides at every root and downstream port, no memory request from an endpoint is
 -- delivered to any endpoint unvalidated.
@@ -84,9 +85,9 @@ pub the-lock :
     → r .end ≡ Delivered i false → ⊥
 unfolding tlpOf
 the-lock s now o h room r i locked ans e req del =
-    clash (ap unvalidated del)
+    contradiction (ap unvalidated del)
     (endpoint-answer s now o h room r ans (λ (x : Trip). unvalidated (x .end) ≡ false) e
-    (λ fit. up-locked s (tlpOf h) (fit .formed) req locked))
+    (λ is. up-locked s (tlpOf h) (is .formed) req locked))
 
 -- 4. The hop bound. An endpoint's TLP makes at most 2D + 1 hops;
 pub hop-bound :
@@ -94,12 +95,13 @@ pub hop-bound :
     → result s now o h room ≡ answered r
     → IsEndpoint s o
     → length (r .hops) ≤ hopBound (shapeOf s)
+unfolding shapeOf
 hop-bound s now o h room r ans e =
     endpoint-answer s now o h room r ans (λ (x : Trip). length (x .hops) ≤ hopBound (shapeOf s)) e
-    (λ fit p l k.
+    (λ is p l k.
     let a : length (up (shapeOf s) (settingOf s) (tlpOf h) p .hops) ≤ ports (shapeOf s) p + depth (shapeOf s) + 1 =
-    up-hops (shapeOf s) (fit .formed) (tlpOf h) (fit .few) (settingOf s) p l k in
-    let b : ports (shapeOf s) p ≤ depth (shapeOf s) = ports-depth (shapeOf s) (fit .formed) p l in
+    up-hops (shapeOf s) (is .formed) (tlpOf h) (is .few) (settingOf s) p l k in
+    let b : ports (shapeOf s) p ≤ depth (shapeOf s) = ports-depth (shapeOf s) (is .formed) p l in
     omega arith)
 
 -- the host's makes at most D + 1;
@@ -107,11 +109,12 @@ pub host-hop-bound :
     (s : List ℕ) (now : ℕ) (h : List ℕ) (room : ℕ) (r : Trip)
     → result s now complex h room ≡ answered r
     → length (r .hops) ≤ depth (shapeOf s) + 1
+unfolding shapeOf
 host-hop-bound s now h room r ans =
-    let a : Accepted s now complex h room r = result-accepted s now complex h room r ans in
-    let fit : Fit s = readable-fit s now (a .read) in
+    let a : Answered s now complex h room r = result-answered s now complex h room r ans in
+    let is : Accepted s = accepted s now (a .read) in
     subst (λ (x : Trip). length (x .hops) ≤ depth (shapeOf s) + 1) (sym (host-route s complex h refl) ∙ a .route-is)
-    (top-hops (shapeOf s) (fit .formed) (tlpOf h) (fit .few) false)
+    (top-hops (shapeOf s) (is .formed) (tlpOf h) (is .few) false)
 
 -- and D is at most 128: whatever the origin, never above 257;
 pub never-above-257 :
@@ -119,13 +122,8 @@ pub never-above-257 :
     → result s now o h room ≡ answered r
     → length (r .hops) ≤ mostHops
 never-above-257 s now o h room r ans =
-    let a : Accepted s now o h room r = result-accepted s now o h room r ans in
-    let fit : Fit s = readable-fit s now (a .read) in
-    let d : depth (shapeOf s) ≤ 128 = depth-most (shapeOf s) (fit .formed) (fit .few) in
-    origin-case s o (a .asked .origin)
-    (λ host. let c : result s now complex h room ≡ answered r = rw (eqb-true o complex host) at ans in
-    let b : length (r .hops) ≤ depth (shapeOf s) + 1 = host-hop-bound s now h room r c in omega arith)
-    (λ e. let b : length (r .hops) ≤ hopBound (shapeOf s) = hop-bound s now o h room r ans e in omega arith)
+    let a : Answered s now o h room r = result-answered s now o h room r ans in
+    subst (λ (x : Trip). length (x .hops) ≤ mostHops) (a .route-is) (few-hops s (accepted s now (a .read)) o (a .origin) h)
 
 -- so a buffer of 1,028 bytes is always enough: refusal 7 is never given for one.
 pub room-enough :
@@ -134,10 +132,12 @@ pub room-enough :
     → result s now o h room ≡ refused 7 i → ⊥
 unfolding fits through
 room-enough s now o h room i enough ref =
-    let (read, asked, last) = result-past s now o h room (refused 7 i) (lit< tt) ref in
-    let ans : result s now o h (4 * length (routed s o h .hops)) ≡ answered (routed s o h) =
-    accepted-result s now o h (4 * length (routed s o h .hops)) (routed s o h)
-    (record { read = read; asked = asked; room-for = le-leb (4 * length (routed s o h .hops)) (4 * length (routed s o h .hops)) (omega arith); route-is = refl }) in
+    let (read, origin, header, last) = result-past s now o h room (refused 7 i) (lit< tt) ref in
+    let just : ℕ = 4 * length (routed s o h .hops) in
+    let room-for : fits (routed s o h) just ≡ true = le-leb just just (omega arith) in
+    let ans : result s now o h just ≡ answered (routed s o h) =
+    answered-result s now o h just (routed s o h)
+    (record { read = read; origin = origin; header = header; room-for = room-for; route-is = refl }) in
     let b : length (routed s o h .hops) ≤ mostHops = never-above-257 s now o h (4 * length (routed s o h .hops)) (routed s o h) ans in
     let f : fits (routed s o h) room ≡ true = le-leb (4 * length (routed s o h .hops)) room (omega arith) in
     let z : answered (routed s o h) ≡ refused 7 i = rw f at last in
@@ -147,34 +147,34 @@ room-enough s now o h room i enough ref =
 -- 5. One way only. In an accepted snapshot at most one sibling covers a TLP, and no search on a route has a choice;
 pub one-way-only :
     (s : List ℕ) (now : ℕ) (t : Tlp)
-    → checked s now ≡ answered tt
+    → verdict s now ≡ answered tt
     → OneWay (shapeOf s) t
 unfolding shapeOf
 one-way-only s now t ok =
-    let fit : Fit s = readable-fit s now (accepted-read s now ok) in
-    one-way s (all-fine s (fit .faultless)) (fit .formed) (fit .few) t
+    let is : Accepted s = accepted s now ok in
+    one-way s (is .faultless) (is .formed) (is .few) t
 
 -- a TLP that port p sends up, because p or its sibling port q covers it, is covered at the port above, and so at every port above;
 pub covered-above :
     (s : List ℕ) (now : ℕ) (t : Tlp) (p q : ℕ)
-    → checked s now ≡ answered tt
+    → verdict s now ≡ answered tt
     → IsPort s p → isRoot (kind s p) ≡ false
     → IsPort s q → parent s q ≡ parent s p
     → covers (shapeOf s) t q ≡ true
     → IsPort s (above (shapeOf s) p) × (covers (shapeOf s) t (above (shapeOf s) p) ≡ true)
 unfolding shapeOf
 covered-above s now t p q ok at-p r at-q e c =
-    let fit : Fit s = readable-fit s now (accepted-read s now ok) in
-    let x : Ascends (shapeOf s) p = ascends (shapeOf s) (fit .formed) p (at-p .0) (at-p .1) r in (
+    let is : Accepted s = accepted s now ok in
+    let x : Ascends (shapeOf s) p = ascends (shapeOf s) (is .formed) p (at-p .0) (at-p .1) r in (
       (x .present, x .port),
-      claimed-above (shapeOf s) (fit .formed) (no-fault-nested s (fit .faultless)) (fit .few) t p q (at-p .0) (at-p .1) r
+      claimed-above (shapeOf s) (is .formed) (is .nested) (is .few) t p q (at-p .0) (at-p .1) r
           (record { present = at-q .0; port = at-q .1; sibling = e; covering = c }),
     )
 
 -- .. which is to say: as long as the ports on the way are no root ports, n + 1 steps up lead to a port that covers it;
 pub covered-at-every-port-above :
     (s : List ℕ) (now : ℕ) (t : Tlp) (p q n : ℕ)
-    → checked s now ≡ answered tt
+    → verdict s now ≡ answered tt
     → IsPort s p → IsPort s q → parent s q ≡ parent s p
     → covers (shapeOf s) t q ≡ true
     → ((k : ℕ) → k ≤ n → isRoot (kind s (portAbove (shapeOf s) k p)) ≡ false)
@@ -192,7 +192,8 @@ pub sent-up-is-answered-for :
     → result s now o h room ≡ answered r
     → wasSentUp (r .hops) ≡ true
     → Answerable (r .end)
+unfolding shapeOf
 sent-up-is-answered-for s now o h room r ans =
     any-answer s now o h room r ans (λ (x : Trip). wasSentUp (x .hops) ≡ true → Answerable (x .end))
-    (λ sent. clash sent (top-not-sent (shapeOf s) (tlpOf h) false))
-    (λ fit. sent-answerable (shapeOf s) (settingOf s) (tlpOf h) (fit .formed) (no-fault-nested s (fit .faultless)) (fit .few))
+    (λ sent. contradiction sent (top-not-sent (shapeOf s) (tlpOf h) false))
+    (λ is. sent-answerable (shapeOf s) (settingOf s) (tlpOf h) (is .formed) (is .nested) (is .few))

@@ -1,4 +1,4 @@
--- Under a setting at least as tight nothing is delivered unvalidated that the first would have routed otherwise. Assumes nothing.
+-- Under a setting at least as tight nothing is delivered unvalidated that the first would have routed otherwise.
 use mathlib.Core.Path.{_≡_, refl, _∙_, ap}
 use mathlib.Core.Bool.{Bool, true, false, cond, _&&_, not}
 use mathlib.Core.List.{List}
@@ -16,9 +16,9 @@ use Rattle.rules.specs.Fabric.{shapeOf, settingOf}
 use Rattle.rules.specs.Cover.{covers, peerOf}
 use Rattle.rules.specs.Decide.{asAddressed, badSource, badTranslation, handling, peerHandling, direct, handled, toPeer, onward, pastParent, decide}
 use Rattle.rules.specs.Route.{above, before, hop, hopUp, up}
-use Rattle.rules.specs.Demand.{WellFormed, Nested, AreBytes, IsPort}
+use Rattle.rules.specs.Properties.{WellFormed, Nested, AreBytes, IsPort}
 use Rattle.rules.specs.Tight.{Alike, TightAt, AtLeastAsTight}
-use Rattle.rules.proofs.Logic.{clash, redirect-no-direct, violation-no-direct, both, and-both, implies}
+use Rattle.rules.proofs.Logic.{contradiction, redirect-no-direct, violation-no-direct, both, and-both, implies}
 use Rattle.rules.proofs.Steps.{Claims, Passed, decide-case, Ascends, ascends, up-step, up-induction}
 use Rattle.rules.proofs.Covered.{unvalidated, checked-validated, claimed-above, covered-answerable, answerable-validated}
 use Rattle.rules.proofs.Alike.{same-capability}
@@ -42,12 +42,12 @@ table-tight : (e r b e′ r′ b′ : Bool) → (r ≡ true → r′ ≡ true) �
     → handling e′ r′ b′ ≡ Direct → handling e r b ≡ Direct
 table-tight false false b e′ r′ b′ hr hb on off h = refl
 table-tight false true b e′ r′ b′ hr hb on off h =
-    let d : handling e′ true b′ ≡ Direct = rw (hr refl) at h in clash (hr refl) (on refl (direct-bit e′ b′ d .0))
+    let d : handling e′ true b′ ≡ Direct = rw (hr refl) at h in contradiction (hr refl) (on refl (direct-bit e′ b′ d .0))
 table-tight true false true e′ r′ b′ hr hb on off h =
-    let d : handling e′ r′ true ≡ Direct = rw (hb refl) at h in clash (off refl (direct-set e′ r′ d .0)) (direct-set e′ r′ d .1)
+    let d : handling e′ r′ true ≡ Direct = rw (hb refl) at h in contradiction (off refl (direct-set e′ r′ d .0)) (direct-set e′ r′ d .1)
 table-tight true false false e′ r′ b′ hr hb on off h = refl
 table-tight true true true e′ r′ b′ hr hb on off h =
-    let d : handling e′ r′ true ≡ Direct = rw (hb refl) at h in clash (hr refl) (direct-set e′ r′ d .1)
+    let d : handling e′ r′ true ≡ Direct = rw (hb refl) at h in contradiction (hr refl) (direct-set e′ r′ d .1)
 table-tight true true false e′ r′ b′ hr hb on off h = refl
 
 -- the same with T, which lets a translated request go direct
@@ -72,21 +72,21 @@ module _ (old new : List ℕ) (bytes : AreBytes new) (alike : Alike old new) (ti
   unfolding badSource settingOf
   source-tight n =
       implies (λ h.
-      let (a, c) = both (t .request && settingOf old .v p) (not (within (shapeOf new .secondary p) (t .bus .0) (shapeOf new .subordinate p))) h in
+      let (a, c) = both (t .request && settingOf old .v p) (not (within (shapeOf new .secondary p) (t .«requester_bus» .0) (shapeOf new .subordinate p))) h in
       and-both (and-both req (at-p .v (both (t .request) (settingOf old .v p) a .1))) c) n
 
   translation-tight : badTranslation (settingOf new) t p ≡ false → badTranslation (settingOf old) t p ≡ false
   unfolding badTranslation settingOf
   translation-tight n =
       implies (λ h.
-      let (a, c) = both (t .request && settingOf old .b p) (not (eqb (t .translation) 0)) h in
+      let (a, c) = both (t .request && settingOf old .b p) (not (eqb (t .«address_type») 0)) h in
       and-both (and-both req (at-p .b (both (t .request) (settingOf old .b p) a .1))) c) n
 
   direct-tight : (q : ℕ) → peerHandling (shapeOf new) (settingOf new) t p q ≡ Direct → peerHandling (shapeOf new) (settingOf old) t p q ≡ Direct
   unfolding peerHandling settingOf shapeOf
   direct-tight q h =
       rw req
-      (excused-tight (settingOf old .t p) (settingOf new .t p) (eqb (t .translation) 2) _ _ (at-p .t)
+      (excused-tight (settingOf old .t p) (settingOf new .t p) (eqb (t .«address_type») 2) _ _ (at-p .t)
       (table-tight (settingOf old .e p) (settingOf old .r p) (vectorBit old p (portNumber new q)) (settingOf new .e p) (settingOf new .r p)
       (vectorBit new p (portNumber new q)) (at-p .r) (vector-tight q) (at-p .e-on) (at-p .e-off))
       (rw req at h))
@@ -132,17 +132,17 @@ module _ (old new : List ℕ) (bytes : AreBytes new) (alike : Alike old new) (ti
       (λ m. unvalidated (hopUp (shapeOf new) t p m (up (shapeOf new) (settingOf new) t) .end) ≡ true
       → up (shapeOf new) (settingOf old) t p ≡ hopUp (shapeOf new) t p m (up (shapeOf new) (settingOf new) t))
       (record {
-        by-v = λ _ z. clash z refl;
-        by-b = λ _ _ z. clash z refl;
-        undefined = λ _ _ _ z. clash z refl;
-        sent-up = λ _ a _ q c r z. clash z (up-not-sent p q l k r c);
-        blocked = λ _ _ _ _ _ z. clash z refl;
-        reflects = λ _ q c r _ z. clash z (checked-validated (shapeOf new) t);
-        by-e = λ _ _ _ _ _ z. clash z refl;
-        apart = λ _ _ _ _ _ _ z. clash z refl;
+        by-v = λ _ z. contradiction z refl;
+        by-b = λ _ _ z. contradiction z refl;
+        undefined = λ _ _ _ z. contradiction z refl;
+        sent-up = λ _ a _ q c r z. contradiction z (up-not-sent p q l k r c);
+        blocked = λ _ _ _ _ _ z. contradiction z refl;
+        reflects = λ _ q c r _ z. contradiction z (checked-validated (shapeOf new) t);
+        by-e = λ _ _ _ _ _ z. contradiction z refl;
+        apart = λ _ _ _ _ _ _ z. contradiction z refl;
         across = λ ok n q e d r z. old-step p (Across q) l k (old-across old new bytes alike tight t req p (l, k) ok n q e d r);
-        to-host = λ _ _ _ _ z. clash z refl;
-        at-parent = λ _ _ _ _ _ z. clash z refl;
+        to-host = λ _ _ _ _ z. contradiction z refl;
+        at-parent = λ _ _ _ _ _ z. contradiction z refl;
         addressed = λ ok n e r c z.
             old-step p (Up asAddressed) l k (old-addressed old new bytes alike tight t req p (l, k) ok n e r c) ∙ ap (before (hop p asAddressed)) (rec r z);
       })

@@ -1,42 +1,48 @@
--- At most one sibling covers a TLP, and a port has at most one child. Assumes nothing.
+-- At most one sibling covers a TLP, and a port has at most one child.
 use mathlib.Core.Path.{_≡_, sym, _∙_}
-use mathlib.Core.Bool.{true, false, _||_}
+use mathlib.Core.Bool.{Bool, true, false, _&&_, not}
 use mathlib.Core.List.{List}
 use Prim.Native.Nat.{ℕ, _≤_, _<_}
 use native.Mathlib.Omega.{arith}
 use lib.Dec.{leb}
 use borrow.Author.Tests.{eqb-true, eqb-false, eq-eqb}
+use Rattle.rules.specs.declared.Found.the-variants.{Nothing}
 use Rattle.rules.specs.declared.Target.{Target}
 use Rattle.rules.specs.declared.Target.the-variants.{Address, Id}
 use Rattle.rules.specs.declared.Tlp.{Tlp}
 use Rattle.rules.specs.Below.{anyBelow}
 use Rattle.rules.specs.Bytes.{within}
-use Rattle.rules.specs.Snapshot.{count, kind, parent, secondary, subordinate, first, last, isRoot, isUpstream, isDownstream, isEndpoint, isPort, isBridge}
-use Rattle.rules.specs.Records.{standsAlone, busesMeet, numbersMeet, overlap, rangesMeet, clash as meet, clashes, fine}
+use Rattle.rules.specs.Snapshot.{count, kind, parent, secondary, subordinate, first, last, isRoot, isUpstream, isDownstream, isEndpoint, isPort}
+use Rattle.rules.specs.Snapshot.{isBridge}
+use Rattle.rules.specs.Records.{noSibling, siblings, underPort, onlyChild, busesMeet, busesApart, overlap, rangesMeet, rangesApart, Keeps, lowestFaulty}
 use Rattle.rules.specs.Fabric.{inRange, holds, shapeOf}
 use Rattle.rules.specs.Cover.{coversTarget, covers, isChild}
-use Rattle.rules.specs.Demand.{WellFormed, OneWay}
-use Rattle.rules.proofs.Logic.{clash, both, and-both, either, or-false, or-right, leb-trans}
+use Rattle.rules.specs.Properties.{WellFormed, OneWay}
+use Rattle.rules.proofs.Logic.{contradiction, both, and-both, either, not-true, or-case, or-false, or-right, leb-trans}
 use Rattle.rules.proofs.Loops.{Some, any-some, some-any, any-false}
 use Rattle.rules.proofs.Covered.{parent-present, under-no-port}
 use Rattle.rules.proofs.Steps.{peer-parts, entry-parts, way-parts}
-use Rattle.rules.proofs.Sound.{in-parts, port-no-endpoint, clashes-rule, kind-range, bridge}
+use Rattle.rules.proofs.Sound.{in-parts, port-no-endpoint, all-keep, kind-range, bridge}
+
+-- no earlier sibling passes a test
+no-sibling : (s : List ℕ) (i j : ℕ) (f : ℕ → Bool) → noSibling s i f ≡ true → j < i → parent s i ≡ parent s j → f j ≡ false
+no-sibling s i j f h l e = rw (eq-eqb _ _ e) at (any-false i (λ j. siblings s i j && f j) (not-true h) j l)
 
 -- what the rules say of a record and an earlier sibling
 record Apart (s : List ℕ) (i j : ℕ) : Type 0 where
-  alone : standsAlone (kind s i) ≡ false
+  alone : underPort (kind s i) ≡ false
   buses : busesMeet s i j ≡ false
   ranges : rangesMeet s i j ≡ false
 
-apart : (s : List ℕ) (i j : ℕ) → fine s i ≡ true → j < i → parent s i ≡ parent s j → Apart s i j
-unfolding clashes meet
+apart : (s : List ℕ) (i j : ℕ) → Keeps s i → j < i → parent s i ≡ parent s j → Apart s i j
+unfolding onlyChild busesApart rangesApart
 apart s i j ok l e =
-    let none : meet s i j ≡ false = any-false i (meet s i) (clashes-rule s i ok) j l in
-    let any : (standsAlone (kind s i) || busesMeet s i j || numbersMeet s i j || rangesMeet s i j) ≡ false = rw (eq-eqb _ _ e) at none in
-    let (abc, d) = or-false (standsAlone (kind s i) || busesMeet s i j || numbersMeet s i j) (rangesMeet s i j) any in
-    let (ab, _) = or-false (standsAlone (kind s i) || busesMeet s i j) (numbersMeet s i j) abc in
-    let (a, b) = or-false (standsAlone (kind s i)) (busesMeet s i j) ab in
-    record { alone = a; buses = b; ranges = d }
+    record {
+      alone = or-case (not (underPort (kind s i))) (not (anyBelow i (siblings s i))) (ok .only-child) (λ p. not-true p)
+          (λ p. contradiction (some-any i (siblings s i) j l (eq-eqb _ _ e)) (not-true p));
+      buses = no-sibling s i j (busesMeet s i) (ok .buses-apart) l e;
+      ranges = no-sibling s i j (rangesMeet s i) (ok .ranges-apart) l e;
+    }
 
 -- two ranges with one address overlap
 overlap-at : (s : List ℕ) (i k j m a : ℕ) → inRange s i a k ≡ true → inRange s j a m ≡ true → overlap s i k j m ≡ true
@@ -63,12 +69,12 @@ buses-at s i j b bi bj x y =
     let (y1, y2) = both (leb (secondary s j) b) (leb b (subordinate s j)) y in
     and-both (and-both (and-both bi bj) (leb-trans (secondary s i) b (subordinate s j) x1 y2)) (leb-trans (secondary s j) b (subordinate s i) y1 x2)
 
-module _ (s : List ℕ) (ok : (i : ℕ) → i < count s → fine s i ≡ true) (wf : WellFormed (shapeOf s)) (few : count s ≤ 256) where
+module _ (s : List ℕ) (clean : lowestFaulty s ≡ Nothing) (wf : WellFormed (shapeOf s)) (few : count s ≤ 256) where
   -- a record that may have siblings is a port
-  not-alone : (i : ℕ) → i < count s → standsAlone (kind s i) ≡ false → isPort (kind s i) ≡ true
+  not-alone : (i : ℕ) → i < count s → underPort (kind s i) ≡ false → isPort (kind s i) ≡ true
   not-alone i l a =
       let (u, e) = or-false (isUpstream (kind s i)) (isEndpoint (kind s i)) a in
-      let (x, y) = kind-range s i (ok i l) in
+      let (x, y) = kind-range s i (all-keep s clean i l) in
       let lo : 1 ≤ kind s i = x in
       let hi : kind s i ≤ 4 = y in
       let n2 : kind s i ≡ 2 → ⊥ = eqb-false _ _ u in
@@ -84,26 +90,26 @@ module _ (s : List ℕ) (ok : (i : ℕ) → i < count s → fine s i ≡ true) (
       either (isPort (kind s j)) (λ x. x)
       (λ n.
       let nr : isRoot (kind s j) ≡ false = or-false (isRoot (kind s j)) (isDownstream (kind s j)) n .0 in
-      clash k (under-no-port (shapeOf s) wf few (parent s j) i (parent-present (shapeOf s) wf j m nr) (wf .under-port j m n) l e))
+      contradiction k (under-no-port (shapeOf s) wf few (parent s j) i (parent-present (shapeOf s) wf j m nr) (wf .under-port j m n) l e))
 
   port-bridge : (i : ℕ) → i < count s → isPort (kind s i) ≡ true → (isEndpoint (kind s i) ≡ false) × (isBridge (kind s i) ≡ true)
   port-bridge i l k =
       let n : isEndpoint (kind s i) ≡ false = port-no-endpoint (kind s i) k in
-      (n, bridge (kind s i) (kind-range s i (ok i l) .0) (kind-range s i (ok i l) .1) n)
+      (n, bridge (kind s i) (kind-range s i (all-keep s clean i l) .0) (kind-range s i (all-keep s clean i l) .1) n)
 
   -- a record and an earlier sibling cannot both cover
   earlier : (g : Target) (i j : ℕ) → i < count s → j < i → parent s i ≡ parent s j
       → coversTarget (shapeOf s) g i ≡ true → coversTarget (shapeOf s) g j ≡ true → ⊥
   unfolding shapeOf
-  earlier (Address a) i j l b e x y = clash (ranges-at s i j a x y) (apart s i j (ok i l) b e .ranges)
-  earlier (Id bus place) i j l b e x y =
-      let z : Apart s i j = apart s i j (ok i l) b e in
+  earlier (Address a) i j l b e x y = contradiction (ranges-at s i j a x y) (apart s i j (all-keep s clean i l) b e .ranges)
+  earlier (Id bus devfn) i j l b e x y =
+      let z : Apart s i j = apart s i j (all-keep s clean i l) b e in
       let port-i : isPort (kind s i) ≡ true = not-alone i l (z .alone) in
       let j-in : j < count s = omega arith in
       let port-j : isPort (kind s j) ≡ true = sibling-port i j l j-in e port-i in
       let (ni, bi) = port-bridge i l port-i in
       let (nj, bj) = port-bridge j j-in port-j in
-      clash (buses-at s i j (bus .0) bi bj (rw ni at x) (rw nj at y)) (z .buses)
+      contradiction (buses-at s i j (bus .0) bi bj (rw ni at x) (rw nj at y)) (z .buses)
 
   pub one-covers : (t : Tlp) (i j : ℕ) → i < count s → j < count s → parent s i ≡ parent s j
       → covers (shapeOf s) t i ≡ true → covers (shapeOf s) t j ≡ true → i ≡ j
@@ -117,9 +123,10 @@ module _ (s : List ℕ) (ok : (i : ℕ) → i < count s → fine s i ≡ true) (
   later-child : (p b c : ℕ) → p < count s → isPort (kind s p) ≡ true → b < count s → c < b → parent s b ≡ p → parent s c ≡ p → ⊥
   unfolding shapeOf
   later-child p b c l k m d e f =
-      clash (not-alone b m (apart s b c (ok b m) d (e ∙ sym f) .alone)) (under-no-port (shapeOf s) wf few p b l k m e)
+      contradiction (not-alone b m (apart s b c (all-keep s clean b m) d (e ∙ sym f) .alone)) (under-no-port (shapeOf s) wf few p b l k m e)
 
-  pub one-child : (p b c : ℕ) → p < count s → isPort (kind s p) ≡ true → b < count s → c < count s → parent s b ≡ p → parent s c ≡ p → b ≡ c
+  pub one-child : (p b c : ℕ) → p < count s → isPort (kind s p) ≡ true → b < count s → c < count s → parent s b ≡ p → parent s c ≡ p
+      → b ≡ c
   one-child p b c l k m n e f =
       let x : c < b → ⊥ = λ d. later-child p b c l k m d e f in
       let y : b < c → ⊥ = λ d. later-child p c b l k n d f e in

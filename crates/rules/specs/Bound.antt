@@ -31,4 +31,4 @@ mostHops = 257
 
 -- a buffer of so many bytes has room for all of them
 abbrev pub roomForAll : ℕ
-roomForAll = 1028
+roomForAll = 4 * mostHops

@@ -15,8 +15,8 @@ use Rattle.rules.specs.Fabric.{Shape}
 -- secondary..subordinate; an endpoint if bus and byte 5 both equal the ID.
 abbrev pub coversTarget : Shape → Target → ℕ → Bool
 coversTarget sh (Address a) i = sh .holds i a
-coversTarget sh (Id bus place) i =
-    cond (isEndpoint (sh .kind i)) (eqb (sh .ownBus i) (bus .0) && eqb (sh .place i) place)
+coversTarget sh (Id bus devfn) i =
+    cond (isEndpoint (sh .kind i)) (eqb (sh .ownBus i) (bus .0) && eqb (sh .devfn i) devfn)
     (within (sh .secondary i) (bus .0) (sh .subordinate i))
 
 unfoldable pub covers : Shape → Tlp → ℕ → Bool

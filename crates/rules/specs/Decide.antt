@@ -12,13 +12,9 @@ use Rattle.rules.specs.declared.Move.the-variants.{Up, Across, Reflect, 
 use Rattle.rules.specs.declared.Tlp.{Tlp}
 use Rattle.rules.specs.Below.{among}
 use Rattle.rules.specs.Bytes.{within}
-use Rattle.rules.specs.Snapshot.{isRoot}
+use Rattle.rules.specs.Snapshot.{complex, isRoot}
 use Rattle.rules.specs.Fabric.{Shape, Setting}
 use Rattle.rules.specs.Cover.{covers, peerOf}
-
--- the root complex, or the host, as a node
-abbrev pub complex : ℕ
-complex = 0xFFFF
 
 -- hop actions: 1 up as addressed; 2 redirected up; 3 up by U; 4 direct to a peer; 5 reflected; 6 down; 7 ends here
 abbrev pub asAddressed : ℕ
@@ -44,7 +40,7 @@ endsHere = 7
 
 -- A violation says "completer abort" for reads, "drop" for writes.
 abbrev pub violation : Letter → Tlp → ℕ → Move
-violation letter t p = Stop (Violated letter p (t .owed))
+violation letter t p = Stop (Violated letter p (t .«completion_owed»))
 
 -- Validation blocks (violation X at that root port) or reflects; a completion is always reflected.
 unfoldable pub blocks : Shape → Tlp → Bool
@@ -59,11 +55,11 @@ sentUp sh t p action = cond (isRoot (sh .kind p)) (atTheTop sh t p) (Up action)
 
 -- 1. Request, V on, requester bus outside secondary..subordinate: violation V.
 unfoldable pub badSource : Shape → Setting → Tlp → ℕ → Bool
-badSource sh st t p = t .request && st .v p && not (within (sh .secondary p) (t .bus .0) (sh .subordinate p))
+badSource sh st t p = t .request && st .v p && not (within (sh .secondary p) (t .«requester_bus» .0) (sh .subordinate p))
 
 -- 2. Request, B on, AT not 0: violation B. (V before B is ours.)
 unfoldable pub badTranslation : Setting → Tlp → ℕ → Bool
-badTranslation st t p = t .request && st .b p && not (eqb (t .translation) 0)
+badTranslation st t p = t .request && st .b p && not (eqb (t .«address_type») 0)
 
 -- 3. p itself covers it. U on: it goes up. U off: undefined.
 unfoldable pub ownRange : Shape → Setting → Tlp → ℕ → Move
@@ -90,7 +86,7 @@ turnsBack st t p = st .c p && not (t .straight)
 unfoldable pub peerHandling : Shape → Setting → Tlp → ℕ → ℕ → Handling
 peerHandling sh st t p q =
     cond (t .request)
-    (cond (st .t p && eqb (t .translation) 2) Direct (handling (st .e p) (st .r p) (st .vector p (vectorNumber sh q))))
+    (cond (st .t p && eqb (t .«address_type») 2) Direct (handling (st .e p) (st .r p) (st .vector p (vectorNumber sh q))))
     (cond (turnsBack st t p) Redirect Direct)
 
 -- Direct between root ports with flag bit 0 clear: unclaimed at FFFFh (ours).

@@ -7,7 +7,8 @@ use lib.Dec.{leb}
 use Rattle.rules.specs.declared.Tlp.{Tlp}
 use Rattle.rules.specs.Below.{anyBelow}
 use Rattle.rules.specs.Bytes.{bit}
-use Rattle.rules.specs.Snapshot.{count, kind, portNumber, parent, ownBus, place, secondary, subordinate, control, first, last, isOpen, rootsReach, validationReflects, vectorBit, bitV, bitB, bitR, bitC, bitU, bitE, bitT}
+use Rattle.rules.specs.Snapshot.{count, kind, portNumber, parent, ownBus, devfn, secondary, subordinate, control, first, last, isOpen, rootsReach}
+use Rattle.rules.specs.Snapshot.{validationReflects, vectorBit, bitV, bitB, bitR, bitC, bitU, bitE, bitT}
 
 pub record Shape : Type 0 where
   pub count : ℕ
@@ -15,7 +16,7 @@ pub record Shape : Type 0 where
   pub portNumber : ℕ → ℕ
   pub parent : ℕ → ℕ
   pub ownBus : ℕ → ℕ
-  pub place : ℕ → ℕ
+  pub devfn : ℕ → ℕ
   pub secondary : ℕ → ℕ
   pub subordinate : ℕ → ℕ
   -- an open range of the node has the address
@@ -51,7 +52,7 @@ shapeOf s =
       portNumber = portNumber s;
       parent = parent s;
       ownBus = ownBus s;
-      place = place s;
+      devfn = devfn s;
       secondary = secondary s;
       subordinate = subordinate s;
       holds = holds s;

@@ -8,7 +8,8 @@ pub mod Cover
 pub mod Decide
 pub mod Route
 pub mod Refuse
-pub mod Demand
+pub mod Properties
+pub mod Accepted
 pub mod Tight
 pub mod Bound
 pub mod Word

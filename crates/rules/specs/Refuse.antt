@@ -7,11 +7,10 @@ use lib.ListN.{length, drop}
 use Rattle.rules.specs.declared.Found.{Found}
 use Rattle.rules.specs.declared.Found.the-variants.{At, Nothing}
 use Rattle.rules.specs.Bytes.{within}
-use Rattle.rules.specs.Snapshot.{marked, flags, version, count, taken, goodUntil, kind, isEndpoint}
+use Rattle.rules.specs.Snapshot.{base, marked, flags, version, count, taken, goodUntil, kind, isEndpoint, complex}
 use Rattle.rules.specs.Records.{lowestFaulty}
 use Rattle.rules.specs.Fabric.{shapeOf, settingOf}
 use Rattle.rules.specs.Tlp.{headerFine, tlpOf}
-use Rattle.rules.specs.Decide.{complex}
 use Rattle.rules.specs.Route.{hopBytes, Trip, route}
 
 -- A test that lets an input pass, or refuses it with a number and an index.
@@ -49,7 +48,7 @@ knownVersion s = eqb (version s) 1
 -- 1, after 2: bad flags, n above 256, until below taken, wrong total length
 unfoldable pub wellMade : List ℕ → Bool
 wellMade s =
-    ltb (flags s) 4 && leb (count s) 256 && leb (taken s) (goodUntil s) && eqb (length s) (24 + 144 * count s)
+    ltb (flags s) 4 && leb (count s) 256 && leb (taken s) (goodUntil s) && eqb (length s) (base (count s))
 
 -- 3: now below taken or above good until
 unfoldable pub inTime : List ℕ → ℕ → Bool
@@ -72,8 +71,8 @@ unfoldable pub fits : Trip → ℕ → Bool
 fits r room = leb (4 * length (r .hops)) room
 
 -- the snapshot is accepted, or refused
-unfoldable pub checked : List ℕ → ℕ → Result (Unit {0})
-checked s now = through (readGates s now) (answered tt)
+unfoldable pub verdict : List ℕ → ℕ → Result (Unit {0})
+verdict s now = through (readGates s now) (answered tt)
 
 -- the route of an accepted query
 unfoldable pub routed : List ℕ → ℕ → List ℕ → Trip

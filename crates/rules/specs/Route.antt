@@ -8,15 +8,15 @@ use Rattle.rules.specs.declared.Outcome.the-variants.{Delivered, Unclaim
 use Rattle.rules.specs.declared.Landing.{Landing}
 use Rattle.rules.specs.declared.Landing.the-variants.{Arrives, Nobody}
 use Rattle.rules.specs.declared.Down.{Down}
-use Rattle.rules.specs.declared.Down.the-variants.{Into, Below, Alone}
+use Rattle.rules.specs.declared.Down.the-variants.{Into, Lands, Alone}
 use Rattle.rules.specs.declared.Move.{Move}
 use Rattle.rules.specs.declared.Move.the-variants.{Up, Across, Reflect, Stop, Beyond}
 use Rattle.rules.specs.declared.Tlp.{Tlp}
 use Rattle.rules.specs.Below.{among}
-use Rattle.rules.specs.Snapshot.{isEndpoint}
+use Rattle.rules.specs.Snapshot.{isEndpoint, complex}
 use Rattle.rules.specs.Fabric.{Shape, Setting}
 use Rattle.rules.specs.Cover.{covers, entryFor, childFor, wayOn}
-use Rattle.rules.specs.Decide.{complex, directToPeer, reflected, downward, endsHere, decide}
+use Rattle.rules.specs.Decide.{directToPeer, reflected, downward, endsHere, decide}
 
 -- A hop: index and action. In the buffer it is four bytes: index (2), action, 0.
 pub record Hop : Type 0 where
@@ -53,9 +53,9 @@ landed checked (Nobody i) = Unclaimed i
 -- delivered. A kind 2 child passes it to its covering port; if none, unclaimed at the kind 2.
 unfoldable pub throughChild : Shape → Tlp → ℕ → Down
 throughChild sh t c =
-    cond (not (covers sh t c)) (Below (Nobody c))
-    (cond (isEndpoint (sh .kind c)) (Below (Arrives c))
-    (among (wayOn sh t c) Into (Below (Nobody c))))
+    cond (not (covers sh t c)) (Lands (Nobody c))
+    (cond (isEndpoint (sh .kind c)) (Lands (Arrives c))
+    (among (wayOn sh t c) Into (Lands (Nobody c))))
 
 unfoldable pub nextDown : Shape → Tlp → ℕ → Down
 nextDown sh t p = among (childFor sh t p) (throughChild sh t) Alone
@@ -63,7 +63,7 @@ nextDown sh t p = among (childFor sh t p) (throughChild sh t) Alone
 -- Each port entered gives one hop; kind 2 only as end.
 abbrev pub hopDown : ℕ → Down → (ℕ → Way) → Way
 hopDown p (Into q) on = record { landing = on q .landing; hops = hop p downward ∷ on q .hops }
-hopDown p (Below l) on = record { landing = l; hops = hop p downward ∷ hop (landsAt l) endsHere ∷ [] }
+hopDown p (Lands l) on = record { landing = l; hops = hop p downward ∷ hop (landsAt l) endsHere ∷ [] }
 hopDown p Alone on = record { landing = Nobody p; hops = hop p endsHere ∷ [] }
 
 -- going down from port p, with fuel that the record count bounds

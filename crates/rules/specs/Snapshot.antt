@@ -1,8 +1,9 @@
 -- The snapshot's fields. Little-endian: a header of 24 bytes, then records of 144 bytes and nothing more.
 use mathlib.Core.Bool.{Bool, _&&_, _||_, not}
 use mathlib.Core.List.{List}
-use Prim.Native.Nat.{ℕ, _+_, _*_, _/_, _%_}
+use Prim.Native.Nat.{ℕ, _+_, _*_, _/_, _%_, _≤_}
 use lib.Dec.{eqb, ltb}
+use lib.ListN.{length}
 use Rattle.rules.specs.Bytes.{byte, le, bit, within}
 
 -- bytes 0-2: the mark `ACS`
@@ -40,6 +41,14 @@ goodUntil s = le 8 s 16
 abbrev pub base : ℕ → ℕ
 base i = 24 + 144 * i
 
+-- the bytes of record i are there
+abbrev pub HasRecord : List ℕ → ℕ → Type 0
+HasRecord s i = base (i + 1) ≤ length s
+
+-- the root complex, or the host, as a node, and what a root port has for a parent
+abbrev pub complex : ℕ
+complex = 0xFFFF
+
 -- byte 0: kind
 abbrev pub kind : List ℕ → ℕ → ℕ
 kind s i = byte s (base i)
@@ -57,8 +66,8 @@ abbrev pub ownBus : List ℕ → ℕ → ℕ
 ownBus s i = byte s (base i + 4)
 
 -- byte 5: device and function
-abbrev pub place : List ℕ → ℕ → ℕ
-place s i = byte s (base i + 5)
+abbrev pub devfn : List ℕ → ℕ → ℕ
+devfn s i = byte s (base i + 5)
 
 -- byte 6: secondary bus; byte 7: subordinate bus
 abbrev pub secondary : List ℕ → ℕ → ℕ

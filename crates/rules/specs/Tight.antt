@@ -7,7 +7,7 @@ use lib.Dec.{leb}
 use lib.ListN.{length}
 use Rattle.rules.specs.Bytes.{byte, within}
 use Rattle.rules.specs.Snapshot.{storedBit, bitV, bitB, bitR, bitU, bitE, bitT}
-use Rattle.rules.specs.Demand.{IsPort, isOn}
+use Rattle.rules.specs.Properties.{IsPort, isOn}
 
 -- byte j of a record is of the Control register, 10-11, or of the Egress Control Vector, 16-47
 abbrev pub settingByte : ℕ → Bool

@@ -68,9 +68,9 @@ unfoldable pub tlpOf : List ℕ → Tlp
 tlpOf h =
     record {
       request = isRequest (byte h 0);
-      owed = isRead (byte h 0);
+      «completion_owed» = isRead (byte h 0);
       straight = relaxed h;
-      translation = addressType h;
-      bus = record { 0 = requesterBus h };
+      «address_type» = addressType h;
+      «requester_bus» = record { 0 = requesterBus h };
       target = targetOf h;
     }

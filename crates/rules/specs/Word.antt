@@ -3,15 +3,21 @@
 use mathlib.Core.Bool.{cond}
 use Prim.Native.Nat.{ℕ, _+_, _*_, _^_}
 use lib.ListN.{length}
+use Rattle.rules.specs.Snapshot.{complex}
 use Rattle.rules.specs.declared.Letter.{Letter}
 use Rattle.rules.specs.declared.Letter.the-variants.{Source, Translation, Egress, Validation}
 use Rattle.rules.specs.declared.Outcome.{Outcome}
 use Rattle.rules.specs.declared.Outcome.the-variants.{Delivered, Host, Unclaimed, Undefined, Violated}
-use Rattle.rules.specs.Decide.{complex}
+use Rattle.rules.specs.declared.Refusal.{Refusal}
+use Rattle.rules.specs.declared.Refusal.the-variants.{Malformed, Version, Time, Faulty, Origin, Header, Room}
+use Rattle.rules.specs.declared.Check.{Check}
+use Rattle.rules.specs.declared.Check.the-variants as check
+use Rattle.rules.specs.declared.Answer.{Answer}
+use Rattle.rules.specs.declared.Answer.the-variants as answer
 use Rattle.rules.specs.Route.{Trip}
 use Rattle.rules.specs.Refuse.{Result, refused, answered}
 
-pub record Told : Type 0 where
+pub record Fields : Type 0 where
   -- 0 delivered unvalidated, 1 delivered checked, 2 host, 3 unclaimed, 4 undefined, 5 violation, 6 refused
   pub kind : ℕ
   -- the refusal number, or the violation letter (V 0, B 1, E 5, X 7), else 0
@@ -23,8 +29,18 @@ pub record Told : Type 0 where
   -- 1 for completer abort, else 0
   pub abort : ℕ
 
-abbrev pub told : ℕ → ℕ → ℕ → ℕ → ℕ → Told
-told kind detail node count abort = record { kind = kind; detail = detail; node = node; count = count; abort = abort }
+abbrev pub fields : ℕ → ℕ → ℕ → ℕ → ℕ → Fields
+fields kind detail node count abort = record { kind = kind; detail = detail; node = node; count = count; abort = abort }
+
+-- the refusal numbers
+abbrev pub numberOf : Refusal → ℕ
+numberOf Malformed = 1
+numberOf Version = 2
+numberOf Time = 3
+numberOf Faulty = 4
+numberOf Origin = 5
+numberOf Header = 6
+numberOf Room = 7
 
 abbrev pub letterNumber : Letter → ℕ
 letterNumber Source = 0
@@ -32,25 +48,34 @@ letterNumber Translation = 1
 letterNumber Egress = 5
 letterNumber Validation = 7
 
-abbrev pub tellsEnd : Outcome → ℕ → Told
-tellsEnd (Delivered i checked) count = told (cond checked 1 0) 0 i count 0
-tellsEnd Host count = told 2 0 complex count 0
-tellsEnd (Unclaimed i) count = told 3 0 i count 0
-tellsEnd (Undefined i) count = told 4 0 i count 0
-tellsEnd (Violated letter i abort) count = told 5 (letterNumber letter) i count (cond abort 1 0)
+abbrev pub endFields : Outcome → ℕ → Fields
+endFields (Delivered i checked) count = fields (cond checked 1 0) 0 i count 0
+endFields Host count = fields 2 0 complex count 0
+endFields (Unclaimed i) count = fields 3 0 i count 0
+endFields (Undefined i) count = fields 4 0 i count 0
+endFields (Violated letter i abort) count = fields 5 (letterNumber letter) i count (cond abort 1 0)
 
-abbrev pub tellsRefusal : ℕ → ℕ → Told
-tellsRefusal number i = told 6 number i 0 0
+abbrev pub refusalFields : ℕ → ℕ → Fields
+refusalFields number i = fields 6 number i 0 0
 
-abbrev pub tells : Result Trip → Told
-tells (refused number i) = tellsRefusal number i
-tells (answered r) = tellsEnd (r .end) (length (r .hops))
+abbrev pub resultFields : Result Trip → Fields
+resultFields (refused number i) = refusalFields number i
+resultFields (answered r) = endFields (r .end) (length (r .hops))
 
 -- from the low byte up: kind, detail, node (2), hop count (2), abort, 0
-abbrev pub wordOf : Told → ℕ
+abbrev pub wordOf : Fields → ℕ
 wordOf x = x .kind + 2 ^ 8 * x .detail + 2 ^ 16 * x .node + 2 ^ 32 * x .count + 2 ^ 48 * x .abort
 
 -- of a check: 0 for an accepted snapshot, else the refusal
-abbrev pub checkWord : Result (Unit {0}) → ℕ
-checkWord (refused number i) = wordOf (tellsRefusal number i)
-checkWord (answered ok) = 0
+abbrev pub verdictWord : Result (Unit {0}) → ℕ
+verdictWord (refused number i) = wordOf (refusalFields number i)
+verdictWord (answered ok) = 0
+
+-- the numbers for each case of what the code answers
+abbrev pub verdictOf : Check → Result (Unit {0})
+verdictOf check.Accepted = answered tt
+verdictOf (check.Refused why i) = refused (numberOf why) i
+
+abbrev pub answerFields : Answer → Fields
+answerFields (answer.Refused why i) = refusalFields (numberOf why) i
+answerFields (answer.Ended end count) = endFields end count

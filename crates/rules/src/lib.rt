@@ -18,13 +18,13 @@ pub struct Tlp {
     // a request, else a completion
     pub request: bool,
     // a completion is owed, so that a violation ends in a completer abort and not in a drop
-    pub owed: bool,
+    pub completion_owed: bool,
     // of a completion: its Relaxed Ordering bit, which keeps C from redirecting it
     pub straight: bool,
     // the address type AT
-    pub translation: u8,
+    pub address_type: u8,
     // the bus of the Requester ID
-    pub bus: Bus,
+    pub requester_bus: Bus,
     pub target: Target,
 }
 
@@ -72,7 +72,7 @@ pub enum Down {
     // on to this port
     Into(u16),
     // the node below is the end
-    Below(Landing),
+    Lands(Landing),
     // no child: the port itself is the end
     Alone,
 }
@@ -89,4 +89,27 @@ pub enum Move {
     Stop(Outcome),
     // the end is this node, and the port's own hop has this action
     Beyond(Outcome, u16, u8),
+}
+
+// Why an input is refused, in the order of document 01's numbers, 1 to 7.
+pub enum Refusal {
+    Malformed,
+    Version,
+    Time,
+    Faulty,
+    Origin,
+    Header,
+    Room,
+}
+
+// What the check of a snapshot gives: it is accepted, or refused with an index.
+pub enum Check {
+    Accepted,
+    Refused(Refusal, u16),
+}
+
+// What a query comes to: a refusal with its index, or an outcome with its hop count.
+pub enum Answer {
+    Refused(Refusal, u16),
+    Ended(Outcome, u16),
 }

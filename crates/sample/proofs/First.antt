@@ -1,13 +1,15 @@
--- F1 prints exactly document 01's two lines. Assumes nothing.
+-- F1 prints exactly document 01's two lines.
 use mathlib.Core.Path.{_≡_, refl, _∙_, ap}
 use mathlib.Core.Bool.{true}
 use mathlib.Core.List.{List, _++_}
 use Prim.Native.Nat.{ℕ}
+use Rattle.rules.specs.Bound.{roomForAll}
 use Rattle.rules.specs.Refuse.{answered, result}
 use Rattle.cases.specs.FabricF.{bytes, ranges, port, node, fabricF, set, request, plain, directly, table}
 use Rattle.cases.proofs.Cases.{F1-to-F12}
 use Rattle.report.specs.Framing.{whole, snapshotOf, nowOf, originOf, headerOf, answerTo}
-use Rattle.report.specs.Text.{newline, decimal, number, endText, hopText, hopsText, headText, answerText, said, printed}
+use Rattle.text.specs.Text.{newline, decimal, number, endText, hopText, hopsText, headText, answerText}
+use Rattle.report.specs.Printed.{said, printed}
 use Rattle.sample.specs.First.{inputF1, linesF1}
 
 framed : whole inputF1 ≡ true
@@ -30,16 +32,16 @@ origin-is : originOf inputF1 ≡ 4
 unfolding inputF1 bytes ranges port node fabricF request plain
 origin-is = refl
 
-routed : result (set 0x00 0) 0 4 plain 1028 ≡ answered directly
+routed : result (set 0x00 0) 0 4 plain roomForAll ≡ answered directly
 unfolding table
 routed = F1-to-F12 .0
 
 answer-is : answerTo inputF1 ≡ answered directly
 answer-is =
-    ap (λ (s : List ℕ). result s (nowOf inputF1) (originOf inputF1) (headerOf inputF1) 1028) snapshot-is
-    ∙ ap (λ (h : List ℕ). result (set 0x00 0) (nowOf inputF1) (originOf inputF1) h 1028) header-is
-    ∙ ap (λ (t : ℕ). result (set 0x00 0) t (originOf inputF1) plain 1028) now-is
-    ∙ ap (λ (o : ℕ). result (set 0x00 0) 0 o plain 1028) origin-is
+    ap (λ (s : List ℕ). result s (nowOf inputF1) (originOf inputF1) (headerOf inputF1) roomForAll) snapshot-is
+    ∙ ap (λ (h : List ℕ). result (set 0x00 0) (nowOf inputF1) (originOf inputF1) h roomForAll) header-is
+    ∙ ap (λ (t : ℕ). result (set 0x00 0) t (originOf inputF1) plain roomForAll) now-is
+    ∙ ap (λ (o : ℕ). result (set 0x00 0) 0 o plain roomForAll) origin-is
     ∙ routed
 
 text-is : answerText (set 0x00 0) (answered directly) ++ newline ≡ linesF1

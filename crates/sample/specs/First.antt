@@ -2,7 +2,7 @@
 use mathlib.Core.List.{List, _∷_, _++_}
 use Prim.Native.Nat.{ℕ}
 use Rattle.cases.specs.FabricF.{bytes, set, plain}
-use Rattle.report.specs.Ascii.{ascii}
+use Rattle.text.specs.Ascii.{ascii}
 
 -- length, snapshot, now 0, origin 4, header length, header
 unfoldable pub inputF1 : List ℕ

@@ -1,32 +1,23 @@
--- Parts of the rules of document 01: what is said of one range or one bit, and of a record without its siblings.
-use mathlib.Core.Path.{_≡_}
-use mathlib.Core.Bool.{Bool, true, _||_, not}
-use mathlib.Core.List.{List, [], _∷_}
-use Prim.Native.Nat.{ℕ, _<_}
-use Rattle.rules.specs.Below.{allOf, anyBelow}
-use Rattle.rules.specs.Bytes.{bit}
-use Rattle.rules.specs.Snapshot.{isOpen}
-use Rattle.rules.specs.Records.{kindFine, parentFine, blankFine, busesFine, rangesFine, overlap, ownOverlap, inside, nestedFine, acsFine, fine}
+-- Parts of the check that a function of their own works out.
+use mathlib.Core.Bool.{Bool, cond, not}
+use mathlib.Core.List.{List}
+use Prim.Native.Nat.{ℕ}
+use Rattle.rules.specs.declared.Found.{Found}
+use Rattle.rules.specs.declared.Found.the-variants.{At, Nothing}
+use Rattle.rules.specs.declared.Refusal.the-variants.{Malformed, Version, Time, Faulty}
+use Rattle.rules.specs.declared.Check.{Check}
+use Rattle.rules.specs.declared.Check.the-variants.{Accepted, Refused}
+use Rattle.rules.specs.Refuse.{knownVersion, wellMade, inTime}
 
--- range k of i is closed or lies inside a window of p
-abbrev pub rangeNested : List ℕ → ℕ → ℕ → ℕ → Bool
-rangeNested s i p k = not (isOpen s i k) || anyBelow 2 (inside s i k p)
+-- the refusals of a header that has begun, in their order: 2, the rest of 1, 3
+unfoldable pub firstRefusal : Bool → Bool → Bool → Check
+firstRefusal wrong-version ill-made untimely =
+    cond wrong-version (Refused Version 0) (cond ill-made (Refused Malformed 0) (cond untimely (Refused Time 0) Accepted))
 
--- a window of i, which is range 0 or 1, and one of j overlap
-abbrev pub windowsMeet : List ℕ → ℕ → ℕ → Bool
-windowsMeet s i j = anyBelow 2 (λ k. anyBelow 2 (overlap s i k j))
+unfoldable pub headerVerdict : List ℕ → ℕ → Check
+headerVerdict s time = firstRefusal (not (knownVersion s)) (not (wellMade s)) (not (inTime s time))
 
--- bit k of a Control register is clear or the Capability has it
-abbrev pub bitAllowed : ℕ → ℕ → ℕ → Bool
-bitAllowed capability control k = not (bit k control) || bit k capability
-
--- a record keeps every rule but those of siblings
-unfoldable pub fineAlone : List ℕ → ℕ → Bool
-fineAlone s i =
-    allOf
-    (kindFine s i ∷ parentFine s i ∷ blankFine s i ∷ busesFine s i ∷ rangesFine s i ∷ not (ownOverlap s i) ∷ nestedFine s i
-    ∷ acsFine s i ∷ [])
-
--- no earlier record is faulty
-abbrev pub Earlier : List ℕ → ℕ → Type 0
-Earlier s i = (j : ℕ) → j < i → fine s j ≡ true
+-- the check's last answer, by what the search for a faulty record gives
+abbrev pub refusedIf : Found → Check
+refusedIf (At i) = Refused Faulty i
+refusedIf Nothing = Accepted

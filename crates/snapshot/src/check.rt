@@ -1,19 +1,19 @@
 // The refusals 1 to 4, in their exact order.
-use crate::answers::Check;
-use crate::answers::Refusal;
-use crate::fields::count;
-use crate::fields::flags;
-use crate::fields::good_until;
-use crate::fields::taken;
-use crate::fields::version;
-use crate::records::lowest_faulty;
+use layout::fields::count;
+use layout::fields::flags;
+use layout::fields::good_until;
+use layout::fields::taken;
+use layout::fields::version;
+use records::faulty::lowest_faulty;
+use rules::Check;
 use rules::Found;
+use rules::Refusal;
 ghost use mathlib.Core.Path.{_≡_};
-ghost use mathlib.Core.Bool.{not};
 ghost use Prim.Native.Nat.{_≤_};
 ghost use lib.ListN.{length};
 ghost use Rattle.rules.specs.Refuse as refuse;
-ghost use Rattle.snapshot.specs.Numbers.{checkedAs, firstRefusal, refusedIf};
+ghost use Rattle.rules.specs.Word.{verdictOf};
+ghost use Rattle.snapshot.specs.Parts.{firstRefusal, headerVerdict, refusedIf};
 
 fn begun(s: &[u8]) -> bool
     ensures { λ r. ⌜ r ≡ refuse.begun (now (s .entry)) ⌝ }
@@ -21,7 +21,7 @@ fn begun(s: &[u8]) -> bool
     if s.len() < 24 {
         return false;
     }
-    words::has_mark(s)
+    layout::fields::has_mark(s)
 }
 
 fn known_version(s: &[u8]) -> bool
@@ -65,7 +65,7 @@ fn first_refusal(wrong_version: bool, ill_made: bool, untimely: bool) -> Check
 // What the header is refused for.
 fn check_header(s: &[u8], time: u64) -> Check
     requires { ⌜ 24 ≤ length (now s) ⌝ }
-    ensures { λ r. ⌜ r ≡ firstRefusal (not (refuse.knownVersion (now (s .entry)))) (not (refuse.wellMade (now (s .entry)))) (not (refuse.inTime (now (s .entry)) time)) ⌝ }
+    ensures { λ r. ⌜ r ≡ headerVerdict (now (s .entry)) time ⌝ }
 {
     first_refusal(!known_version(s), !well_made(s), !in_time(s, time))
 }
@@ -81,11 +81,11 @@ fn refused_if(faulty: Found) -> Check
 }
 
 pub fn check(s: &[u8], time: u64) -> Check
-    ensures { λ r. ⌜ checkedAs r ≡ refuse.checked (now (s .entry)) time ⌝ }
+    ensures { λ r. ⌜ verdictOf r ≡ refuse.verdict (now (s .entry)) time ⌝ }
 {
     if begun(s) {
         match check_header(s, time) {
-            Check::Accepted => refused_if(lowest_faulty(s, count(s))),
+            Check::Accepted => refused_if(lowest_faulty(s)),
             Check::Refused(why, i) => Check::Refused(why, i),
         }
     } else {

@@ -1,5 +1,5 @@
 -- A big-endian number byte by byte, at any width: at a loop's start, after a turn, at its end; and that eight bytes fit 64 bits.
--- Assumes nothing.
+--
 use mathlib.Core.Path.{_≡_, refl, _∙_, ap}
 use mathlib.Core.List.{List}
 use Prim.Native.Nat.{ℕ, _+_, _*_, _^_, _≤_, _<_}

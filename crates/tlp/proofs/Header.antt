@@ -1,5 +1,5 @@
--- What the tests of a header say, case by case: its length, its target, and whether it is fine. Assumes nothing.
-use mathlib.Core.Path.{_≡_, refl}
+-- What the tests of a header say, case by case: its length, its target, and whether it is fine.
+use mathlib.Core.Path.{_≡_, refl, sym, _∙_}
 use mathlib.Core.Bool.{Bool, true, false, cond, _&&_, _||_, not}
 use mathlib.Core.List.{List}
 use Prim.Native.Nat.{ℕ, _+_, _≤_, _<_}
@@ -29,13 +29,14 @@ header-twelve form = go (isLong form)
     go true = omega arith
     go false = omega arith
 
-pub target-id : (h : List ℕ) → isCompletion (byte h 0) ≡ true → Id (record { 0 = byte h 8 }) (byte h 9) ≡ targetOf h
-unfolding targetOf
-target-id h p = rw p
+module _ (h : List ℕ) {completion : Bool} (c : completion ≡ isCompletion (byte h 0)) where
+  pub target-id : completion ≡ true → Id (record { 0 = byte h 8 }) (byte h 9) ≡ targetOf h
+  unfolding targetOf
+  target-id on = rw (sym c ∙ on)
 
-pub target-address : (h : List ℕ) {place : ℕ} → place ≡ address h → isCompletion (byte h 0) ≡ false → Address place ≡ targetOf h
-unfolding targetOf
-target-address h e p = rw (p, e)
+  pub target-address : {first : ℕ} → completion ≡ false → first ≡ address h → Address first ≡ targetOf h
+  unfolding targetOf
+  target-address off e = rw (sym c ∙ off, e)
 
 -- the code's test of a header of the right length, from its parts
 module _ (h : List ℕ) {completion request over : Bool}

@@ -98,27 +98,27 @@ fn address(h: &[u8]) -> u64
 }
 
 // From its address on, the request's bytes go past a boundary of 4,096.
-fn crosses(h: &[u8], place: u64) -> bool
-    requires { ⌜ (4 ≤ length (now h)) × (place ≡ address (now h)) ⌝ }
+fn crosses(h: &[u8], first: u64) -> bool
+    requires { ⌜ (4 ≤ length (now h)) × (first ≡ address (now h)) ⌝ }
     ensures { λ r. ⌜ r ≡ crosses (now (h .entry)) ⌝ }
 {
-    4096 < place % 4096 + 4 * (doublewords(h) as u64)
+    4096 < first % 4096 + 4 * (doublewords(h) as u64)
 }
 
 // A completion goes to an ID, a request to its address.
-fn target_of(h: &[u8], place: u64) -> Target
-    requires { ⌜ (12 ≤ length (now h)) × (place ≡ address (now h)) ⌝ }
+fn target_of(h: &[u8], first: u64) -> Target
+    requires { ⌜ (12 ≤ length (now h)) × (first ≡ address (now h)) ⌝ }
     ensures { λ r. ⌜ r ≡ targetOf (now (h .entry)) ⌝ }
 {
     if is_completion(h[0]) {
         Target::Id(Bus(h[8]), h[9])
     } else {
-        Target::Address(place)
+        Target::Address(first)
     }
 }
 
-fn tlp_of(h: &[u8], place: u64) -> Tlp
-    requires { ⌜ (12 ≤ length (now h)) × (place ≡ address (now h)) ⌝ }
+fn tlp_of(h: &[u8], first: u64) -> Tlp
+    requires { ⌜ (12 ≤ length (now h)) × (first ≡ address (now h)) ⌝ }
     ensures { λ r. ⌜ r ≡ tlpOf (now (h .entry)) ⌝ }
 {
     let form = h[0];
@@ -126,11 +126,11 @@ fn tlp_of(h: &[u8], place: u64) -> Tlp
     let read = is_read(form);
     Tlp {
         request,
-        owed: read,
+        completion_owed: read,
         straight: (h[2] >> 5) % 2 == 1,
-        translation: h[2] / 4 % 4,
-        bus: Bus(h[4]),
-        target: target_of(h, place),
+        address_type: h[2] / 4 % 4,
+        requester_bus: Bus(h[4]),
+        target: target_of(h, first),
     }
 }
 
@@ -140,9 +140,9 @@ fn read_whole(h: &[u8]) -> Read
     ensures { λ r. ⌜ r ≡ headerRead (now (h .entry)) ⌝ }
 {
     let form = h[0];
-    let place = address(h);
-    if is_completion(form) | (is_request(form) & !crosses(h, place)) {
-        Read::Good(tlp_of(h, place))
+    let first = address(h);
+    if is_completion(form) | (is_request(form) & !crosses(h, first)) {
+        Read::Good(tlp_of(h, first))
     } else {
         Read::Bad
     }

@@ -1,9 +1,9 @@
--- `acs::acs_check` meets its contract. Assumes nothing.
-use Rattle.acs.proofs.Words.{check-says}
+-- `acs::acs_check` meets its contract: the word of the verdict.
 use borrow.Author.Needs.{needs}
+use Rattle.acs.proofs.Words.{check-says}
 use Rattle.acs.proofs.acs_check.Statement.{statement}
 use Rattle.acs.proofs.acs_check.Tie as tie
 
 pub acs-check-spec : {M : Type 1} → statement M
 acs-check-spec = tie.close (tie.spec
-    (λ c κs. search needs) (λ c κs. search needs) (λ c. check-says _ _ (c .before .check .result) (c .before .check .ensures) (c .check-word .ensures)))
+    (λ c κs. search needs) (λ c κs. search needs) (λ c. search check-says))

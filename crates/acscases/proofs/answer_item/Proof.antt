@@ -1,4 +1,4 @@
--- `acscases::answer_item` is safe and ends. Assumes nothing.
+-- `acscases::answer_item` is safe and ends.
 use lib.Seq.{length-take-le}
 use mathlib.Core.Path.{sym}
 use native.Mathlib.Omega.{arith}

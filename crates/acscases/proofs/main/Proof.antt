@@ -1,4 +1,4 @@
--- `acscases::main` is safe and ends. The measure is the number of turns that are left. Assumes nothing.
+-- `acscases::main` is safe and ends. The measure is the number of turns that are left.
 use borrow.Author.Needs.{needs}
 use Rattle.acscases.proofs.main.Statement.{statement}
 use Rattle.acscases.proofs.main.Tie as tie

@@ -1,4 +1,4 @@
--- `acscases::pass_all` is safe and ends. The measure is what is left. Assumes nothing.
+-- `acscases::pass_all` is safe and ends. The measure is what is left.
 use borrow.Author.Needs.{needs}
 use Rattle.acscases.proofs.pass_all.Statement.{statement}
 use Rattle.acscases.proofs.pass_all.Tie as tie

@@ -1,4 +1,4 @@
--- `acscases::read_whole` is safe and ends. Assumes nothing.
+-- `acscases::read_whole` is safe and ends.
 use lib.Seq.{length-take-le}
 use mathlib.Core.Path.{sym}
 use native.Mathlib.Omega.{arith}

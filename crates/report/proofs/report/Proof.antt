@@ -1,7 +1,7 @@
--- `report::report` meets its contract: the whole text with its last newline. Assumes nothing.
+-- `report::report` meets its contract: the whole text with its last newline.
 use native.Mathlib.Omega.{arith}
-use Rattle.report.proofs.Putting.{then, whole-text}
-use Rattle.report.specs.Text.{printed}
+use Rattle.text.proofs.Putting.{then, whole-text}
+use Rattle.report.specs.Printed.{printed}
 use borrow.Author.Needs.{needs}
 use Rattle.report.proofs.report.Statement.{statement}
 use Rattle.report.proofs.report.Tie as tie

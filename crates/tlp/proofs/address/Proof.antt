@@ -1,4 +1,4 @@
--- `tlp::address` meets its contract: the bytes of the address, at either length, stand in the header, and `be` gives their number. Assumes nothing.
+-- `tlp::address` meets its contract: the bytes of the address, at either length, stand in the header, and `be` gives their number.
 use borrow.Author.Needs.{needs}
 use Rattle.rules.specs.Bytes.{byte}
 use Rattle.rules.specs.Tlp.{address}

@@ -1,4 +1,4 @@
--- `tlp::address_bytes` meets its contract: the choice by `is_long`. Assumes nothing.
+-- `tlp::address_bytes` meets its contract: the choice by `is_long`.
 use borrow.Author.Needs.{needs}
 use Rattle.tlp.proofs.address_bytes.Statement.{statement}
 use Rattle.tlp.proofs.address_bytes.Tie as tie

@@ -1,4 +1,4 @@
--- `tlp::be` meets its contract: the loop's turns are those of the definition, and one more byte always fits. Assumes nothing.
+-- `tlp::be` meets its contract: the loop's turns are those of the definition, and one more byte always fits.
 use Prim.Native.Nat.{_≤_, _<_, _+_, _-_, _^_}
 use mathlib.Core.Path.{_≡_}
 use borrow.Author.Needs.{needs}

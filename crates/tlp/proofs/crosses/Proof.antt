@@ -1,4 +1,4 @@
--- `tlp::crosses` meets its contract: `doublewords` gives the length, and the caller the address. Assumes nothing.
+-- `tlp::crosses` meets its contract: `doublewords` gives the length, and the caller the address.
 use borrow.Author.Needs.{needs}
 use Rattle.rules.specs.Tlp.{crosses}
 use Rattle.tlp.proofs.crosses.Statement.{statement}

@@ -1,4 +1,4 @@
--- `tlp::doublewords` meets its contract: the two arms are those of the definition. Assumes nothing.
+-- `tlp::doublewords` meets its contract: the two arms are those of the definition.
 use native.Mathlib.Omega.{arith}
 use borrow.Author.Tests.{eq-eqb, ne-eqb}
 use borrow.Author.Needs.{needs}

@@ -1,4 +1,4 @@
--- `tlp::header_length` meets its contract: the choice by `is_long`. Assumes nothing.
+-- `tlp::header_length` meets its contract: the choice by `is_long`.
 use borrow.Author.Needs.{needs}
 use Rattle.tlp.proofs.header_length.Statement.{statement}
 use Rattle.tlp.proofs.header_length.Tie as tie

@@ -1,4 +1,4 @@
--- `tlp::is_request` meets its contract: a read or a write. Assumes nothing.
+-- `tlp::is_request` meets its contract: a read or a write.
 use borrow.Author.Needs.{needs}
 use Rattle.tlp.proofs.is_request.Statement.{statement}
 use Rattle.tlp.proofs.is_request.Tie as tie

@@ -1,5 +1,4 @@
--- `tlp::target_of` meets its contract: the two arms are those of the definition. Assumes nothing.
-use mathlib.Core.Path.{sym, _∙_}
+-- `tlp::target_of` meets its contract: the two arms are those of the definition.
 use borrow.Author.Needs.{needs}
 use Rattle.tlp.proofs.Header.{target-id, target-address}
 use Rattle.tlp.proofs.target_of.Statement.{statement}
@@ -8,5 +7,4 @@ use Rattle.tlp.proofs.target_of.Tie as tie
 pub target-of-spec : {M : Type 1} → statement M
 target-of-spec = tie.close (tie.spec
     (λ c. search needs) (λ c κs. search needs) (λ c. search needs) (λ c. search needs)
-    (λ c. target-id _ (sym (c .before .before .before .is-completion .ensures) ∙ c .before .before .if1 .taken))
-    (λ c. target-address _ (c .before .before .before .before .pre .1) (sym (c .before .is-completion .ensures) ∙ c .if1 .left)))
+    (λ c. search target-id) (λ c. search target-address))

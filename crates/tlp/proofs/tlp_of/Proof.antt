@@ -1,4 +1,4 @@
--- `tlp::tlp_of` meets its contract: field by field. Assumes nothing.
+-- `tlp::tlp_of` meets its contract: field by field.
 use borrow.Author.Needs.{needs}
 use Rattle.rules.specs.Tlp.{tlpOf}
 use Rattle.tlp.proofs.tlp_of.Statement.{statement}

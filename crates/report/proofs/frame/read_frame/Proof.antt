@@ -1,4 +1,4 @@
--- `report::frame::read_frame` meets its contract: whole exactly where the lengths add up. Assumes nothing.
+-- `report::frame::read_frame` meets its contract: whole exactly where the lengths add up.
 use borrow.Author.Needs.{needs}
 use native.Mathlib.Omega.{arith}
 use Prim.Native.Nat.{_+_}
@@ -8,8 +8,7 @@ use Rattle.report.proofs.frame.read_frame.Tie as tie
 
 pub read-frame-spec : {M : Type 1} → statement M
 read-frame-spec = tie.close (tie.spec
-    (λ c. framed-short _ (c .if1 .taken)) (λ c κs. search needs) (λ c. search needs) (λ c. search needs) (λ c. framed-cut _ _ (c .before .le-u16
-    .ensures) (c .if2 .taken)) (λ c. search needs) (λ c. omega (arith, c .shared-slice-known2 .given (c .before .before .le-u16 .result + 12))) (λ c.
-    search needs) (λ c. omega (arith, c .shared-slice-known2 .given (c .before .before .le-u16 .result + 12))) (λ c. framed-whole _ _ (c .before
-    .before .before .le-u16 .ensures) (c .before .before .if2 .left) (c .if3 .taken)) (λ c. framed-off _ _ (c .before .before .before .le-u16 .ensures)
-    (c .before .before .if2 .left) (c .if3 .left)))
+    (λ c. search framed-short) (λ c κs. search needs) (λ c. search needs) (λ c. search needs) (λ c. search framed-cut) (λ c. search needs)
+    (λ c. omega (arith, c .shared-slice-known2 .given (c .before .before .le-u16 .result + 12))) (λ c. search needs)
+    (λ c. omega (arith, c .shared-slice-known2 .given (c .before .before .le-u16 .result + 12)))
+    (λ c. search framed-whole) (λ c. search framed-off))

@@ -1,0 +1,3 @@
+pub mod Eight
+pub mod Digits
+pub mod Laid

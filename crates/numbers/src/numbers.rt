@@ -1,0 +1,63 @@
+// Numbers in bytes, and runs of zero bytes.
+ghost use mathlib.Core.Path.{_≡_};
+ghost use Prim.Native.Nat.{_+_, _≤_};
+ghost use lib.ListN.{length};
+ghost use Rattle.rules.specs.Bytes.{le};
+ghost use Rattle.rules.specs.Records.{zeros};
+ghost use Rattle.numbers.specs.Sums.{two, eight};
+
+fn sum2(a: u8, b: u8) -> u16
+    ensures { λ r. ⌜ r ≡ two a b ⌝ }
+{
+    (a as u16) + 0x100 * (b as u16)
+}
+
+// Two bytes, little-endian.
+pub fn le_u16(s: &[u8], at: usize) -> u16
+    requires { ⌜ at + 2 ≤ length (now s) ⌝ }
+    ensures { λ r. ⌜ r ≡ le 2 (now (s .entry)) at ⌝ }
+{
+    sum2(s[at], s[at + 1])
+}
+
+fn sum8(a: u8, b: u8, c: u8, d: u8, e: u8, f: u8, g: u8, h: u8) -> u64
+    ensures { λ r. ⌜ r ≡ eight a b c d e f g h ⌝ }
+{
+    (a as u64)
+        + 0x100 * (b as u64)
+        + 0x10000 * (c as u64)
+        + 0x1000000 * (d as u64)
+        + 0x100000000 * (e as u64)
+        + 0x10000000000 * (f as u64)
+        + 0x1000000000000 * (g as u64)
+        + 0x100000000000000 * (h as u64)
+}
+
+// Eight bytes, little-endian.
+pub fn le_u64(s: &[u8], at: usize) -> u64
+    requires { ⌜ at + 8 ≤ length (now s) ⌝ }
+    ensures { λ r. ⌜ r ≡ le 8 (now (s .entry)) at ⌝ }
+{
+    sum8(
+        s[at],
+        s[at + 1],
+        s[at + 2],
+        s[at + 3],
+        s[at + 4],
+        s[at + 5],
+        s[at + 6],
+        s[at + 7],
+    )
+}
+
+// The n bytes from `at` on are zero.
+pub fn is_zero(s: &[u8], at: usize, n: usize) -> bool
+    requires { ⌜ at + n ≤ length (now s) ⌝ }
+    ensures { λ r. ⌜ r ≡ zeros (now (s .entry)) at n ⌝ }
+{
+    let mut ok = true;
+    for k in 0..n {
+        ok = ok & (s[at + k] == 0);
+    }
+    ok
+}

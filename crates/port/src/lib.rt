@@ -1,0 +1,5 @@
+// One port: what it does with a TLP that goes up, and with one that goes down.
+pub mod actions;
+pub mod decide;
+pub mod pass;
+mod table;

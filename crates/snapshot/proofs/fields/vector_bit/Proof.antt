@@ -1,8 +1,0 @@
--- `snapshot::fields::vector_bit` meets its contract by what its callees ensure. Assumes nothing.
-use borrow.Author.Needs.{needs}
-use Rattle.snapshot.proofs.fields.vector_bit.Statement.{statement}
-use Rattle.snapshot.proofs.fields.vector_bit.Tie as tie
-
-pub vector-bit-spec : {M : Type 1} → statement M
-vector-bit-spec = tie.close (tie.spec
-    (λ c. search needs) (λ c. search needs) (λ c. search needs) (λ c κs. search needs) (λ c κs. search needs) (λ c κs. search needs) (λ c. cc))

@@ -1,8 +1,0 @@
--- `snapshot::registers::bit_allowed` meets its contract by what its callees ensure. Assumes nothing.
-use borrow.Author.Needs.{needs}
-use Rattle.snapshot.proofs.registers.bit_allowed.Statement.{statement}
-use Rattle.snapshot.proofs.registers.bit_allowed.Tie as tie
-
-pub bit-allowed-spec : {M : Type 1} → statement M
-bit-allowed-spec = tie.close (tie.spec
-    (λ c κs. search needs) (λ c κs. search needs) (λ c. cc))

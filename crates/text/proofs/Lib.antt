@@ -1,0 +1,5 @@
+pub mod Putting
+pub mod LinesLaws
+pub mod Decimals
+pub mod Digits
+pub mod Hopping

@@ -1,0 +1,3 @@
+// Words, numbers and lines put into a text.
+pub mod lines;
+pub mod put;

@@ -1,0 +1,4 @@
+pub mod HopsLaws
+pub mod DownLaws
+pub mod UpLaws
+pub mod WayLaws

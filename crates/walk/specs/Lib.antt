@@ -1,0 +1,2 @@
+pub mod Hops
+pub mod Ways
