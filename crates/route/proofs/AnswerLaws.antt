@@ -17,10 +17,10 @@ use Rattle.rules.specs.Fabric.{shapeOf, settingOf}
 use Rattle.rules.specs.Tlp.{headerFine, tlpOf}
 use Rattle.rules.specs.Route.{Trip}
 use Rattle.rules.specs.Bound.{roomForAll, mostHops}
-use Rattle.rules.specs.Refuse.{Result, refused, answered, through, fits, isOrigin, readGates, routed, result, verdict, written}
+use Rattle.rules.specs.Refuse.{Result, refused, answered, through, fits, isOrigin, routed, result, verdict, written}
 use Rattle.rules.specs.Word.{resultFields, answerFields, verdictOf, numberOf}
 use Rattle.rules.specs.Accepted.{Accepted}
-use Rattle.rules.proofs.Gates.{through-open, through-refused}
+use Rattle.snapshot.proofs.CheckLaws.{check-opens, check-refuses}
 use Rattle.tlp.specs.declared.Read.{Read}
 use Rattle.tlp.specs.declared.Read.the-variants.{Good, Bad}
 use Rattle.tlp.specs.Header.{headerRead}
@@ -109,11 +109,10 @@ module _ (s : List ℕ) (o : ℕ) (h b : List ℕ) {is : Bool} (ho : is ≡ isOr
 
 module _ (s : List ℕ) (time o : ℕ) (h b : List ℕ) {c : Check} (hc : verdictOf c ≡ verdict s time) where
   pub route-refused : {why : Refusal} {i : ℕ} → c ≡ check.Refused why i → Answers (result s time o h (length b)) b (Refused why i) b
-  unfolding result verdict
-  route-refused {why} {i} e =
-      refuses why i (sym (through-refused (readGates s time) (numberOf why) i _ (sym hc ∙ ap verdictOf e)))
+  unfolding result
+  route-refused {why} {i} e = refuses why i (sym (check-refuses s time hc e _))
 
   pub route-asked : {a : Answer} {b₁ : List ℕ} → c ≡ check.Accepted → Answers (asked s o h (length b)) b a b₁
       → Answers (result s time o h (length b)) b a b₁
-  unfolding result verdict
-  route-asked e y = by-name (sym (through-open (readGates s time) _ (sym hc ∙ ap verdictOf e))) y
+  unfolding result
+  route-asked e y = by-name (sym (check-opens s time hc e _)) y
