@@ -55,7 +55,7 @@ SEEDED = $(if $(SEED),--seed $(SEED)) $(if $(CASES),--cases $(CASES))
         snapshots stack symbols clean FORCE
 
 help:
-	@echo 'make demo        build, and show Fabric F in the cases F1 to F14'
+	@echo 'make demo        build, and show Fabric F in cases of docs/RULES.md'
 	@echo 'make test        the gate: prove everything, run every program (.ci/run)'
 	@echo 'make lib         the archive and its header, in build/dist'
 	@echo 'make install     library, header, acs.pc, manual and pages under PREFIX ($(PREFIX)); DESTDIR is honoured'

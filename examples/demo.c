@@ -1,10 +1,10 @@
 /*
- * The demonstration: Fabric F in the cases F1 to F14 of document 01, each asked
- * of the library, told in words and held to what the document says.
+ * The demonstration: Fabric F in cases of docs/RULES.md, each asked of the
+ * library, told in words and held to what that page says.
  *
  *     demo FOLDER      the folder of the sample snapshots
  *
- * Exit status: 0 all as the document says, 1 something differs, 2 a file is
+ * Exit status: 0 all as the rules say, 1 something differs, 2 a file is
  * missing.
  */
 #include <string.h>
@@ -19,7 +19,7 @@ struct example {
     const char *setting;
     const char *file;
     struct query query;
-    const char *line; /* what document 01 says, as acsroute prints it */
+    const char *line; /* what docs/RULES.md says, as acsroute prints it */
 };
 
 static const struct example examples[] = {
@@ -84,6 +84,18 @@ static const struct example examples[] = {
     { "F14", "Not those with Relaxed Ordering.", "fabric-f-18h.acs",
       { 5, ACS_TLP_COMPLETION_DATA, 0, 0, 0, 0x0300, 1 },
       "delivered 4 unvalidated 3:4 2:6 4:7" },
+    { "F16", "As F6, with vectors of 256 bits: a size field of 00h beside E.",
+      "fabric-f-37h-full-bit-2.acs",
+      { 4, ACS_TLP_WRITE, 0x80100000, 0, 1, 0x0300, 0 },
+      "delivered 5 checked 2:2 0:5 0:6 3:6 5:7" },
+    { "F19", "As F7, where record 3 has Port Number 255: bit 255 of 256 forbids.",
+      "fabric-f-20h-full-port-255.acs",
+      { 4, ACS_TLP_READ, 0x80100000, 0, 1, 0x0300, 0 },
+      "violation 2 E abort 2:7" },
+    { "F19", "The same with vectors of 255 bits: bit 255 is past the size, and reads 0.",
+      "fabric-f-20h-ffh-port-255.acs",
+      { 4, ACS_TLP_READ, 0x80100000, 0, 1, 0x0300, 0 },
+      "delivered 5 unvalidated 2:4 3:6 5:7" },
 };
 
 static const char fabric[] =
@@ -130,8 +142,8 @@ static void show(const struct example *example, const struct snapshot *snapshot,
     print_hops(stdout, "        ", snapshot, &example->query, answer, hops);
 }
 
-/* Asks one case. Gives 1 if the answer is as the document says, 0 if not, and
-   -1 if the file can't be read. */
+/* Asks one case. Gives 1 if the answer is as the rules say, 0 if not, and -1 if
+   the file can't be read. */
 static int ask(const struct example *example, const char *folder)
 {
     static struct snapshot snapshot;
@@ -146,9 +158,9 @@ static int ask(const struct example *example, const char *folder)
                        length, hops, sizeof hops);
     show(example, &snapshot, answer, hops);
     same = strcmp(answer_line(line, sizeof line, answer, hops), example->line) == 0;
-    printf("     [%s] %s\n", line, same ? "as document 01 says" : "DIFFERS");
+    printf("     [%s] %s\n", line, same ? "as the rules say" : "DIFFERS");
     if (!same)
-        printf("     [%s] is what document 01 says\n", example->line);
+        printf("     [%s] is what the rules say\n", example->line);
     return same;
 }
 
@@ -167,9 +179,8 @@ int main(int argc, char **argv)
         right += (size_t)same;
     }
     if (right == count)
-        printf("\nCases F1 to F14: all %zu answers came out as document 01 says.\n", count);
+        printf("\nAll %zu answers came out as docs/RULES.md says.\n", count);
     else
-        printf("\nCases F1 to F14: %zu of %zu answers DIFFER from document 01.\n",
-               count - right, count);
+        printf("\n%zu of %zu answers DIFFER from docs/RULES.md.\n", count - right, count);
     return right == count && fflush(stdout) == 0 ? 0 : 1;
 }

@@ -146,7 +146,8 @@ uint64_t record_last(const uint8_t *record, unsigned k)
 
 unsigned record_vector_size(const uint8_t *record)
 {
-    return record_capability(record) >> 8;
+    unsigned capability = record_capability(record), field = capability >> 8;
+    return field == 0 && capability & ACS_BIT_E ? 256 : field;
 }
 
 int record_stored_bit(const uint8_t *record, unsigned number)

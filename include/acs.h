@@ -29,9 +29,9 @@ extern "C" {
 /* ---- Version ------------------------------------------------------------ */
 
 #define ACS_VERSION_MAJOR 0
-#define ACS_VERSION_MINOR 2
+#define ACS_VERSION_MINOR 3
 #define ACS_VERSION_PATCH 0
-#define ACS_VERSION "0.2.0"
+#define ACS_VERSION "0.3.0"
 
 /* ---- Sizes and numbers -------------------------------------------------- */
 
@@ -119,7 +119,8 @@ enum acs_record_kind {
 };
 
 /* Bits of the ACS Capability and Control registers; Capability has the size of
-   the Egress Control Vector in its high byte. */
+   the Egress Control Vector in its high byte, where 00h means 256 bits if the
+   Capability has E. */
 enum acs_bit {
     ACS_BIT_V = 0x01,  /* bit 0: Source Validation */
     ACS_BIT_B = 0x02,  /* bit 1: Translation Blocking */

@@ -54,16 +54,16 @@ def span(first, length):
     return (first, first + length - 1)
 
 
-def fabric_f(control, vector=()):
-    """Fabric F of document 01, the same control and vector on its three ports."""
-    acs = dict(capability=0x087F, control=control, vector=vector)
+def fabric_f(control, vector=(), capability=0x087F, peer=2):
+    """Fabric F, the same registers on its three ports; peer is record 3's Port Number."""
+    acs = dict(capability=capability, control=control, vector=vector)
     return [
         record(ROOT_PORT, NO_PARENT, 0, port=0, devfn=8, buses=(1, 4),
                ranges=[(0x80000000, 0x803FFFFF)], **acs),
         record(UPSTREAM, 0, 1, buses=(2, 4), ranges=[(0x80000000, 0x803FFFFF)]),
         record(DOWNSTREAM, 1, 2, port=1, devfn=0, buses=(3, 3),
                ranges=[(0x80000000, 0x800FFFFF)], **acs),
-        record(DOWNSTREAM, 1, 2, port=2, devfn=8, buses=(4, 4),
+        record(DOWNSTREAM, 1, 2, port=peer, devfn=8, buses=(4, 4),
                ranges=[(0x80100000, 0x801FFFFF)], **acs),
         record(ENDPOINT, 2, 3, ranges=[(0x80000000, 0x80000FFF)]),
         record(ENDPOINT, 3, 4, ranges=[(0x80100000, 0x80100FFF)]),
@@ -204,7 +204,7 @@ def riser_below(start, port, buses, low, high):
 def samples():
     whole = snapshot(fabric_f(0x17))
     return {
-        # Fabric F, named by its Control register: cases F1 to F14 of document 01.
+        # Fabric F, named by its Control register: cases of docs/RULES.md.
         "fabric-f-00h.acs": snapshot(fabric_f(0x00)),                   # F1, F11, F12, F13
         "fabric-f-17h.acs": whole,                                      # F2, F8, F9
         "fabric-f-17h-blocking.acs": snapshot(fabric_f(0x17), flags=0),  # F3
@@ -214,6 +214,9 @@ def samples():
         "fabric-f-20h-bit-2.acs": snapshot(fabric_f(0x20, [2])),        # F7
         "fabric-f-55h.acs": snapshot(fabric_f(0x55)),                   # F10
         "fabric-f-18h.acs": snapshot(fabric_f(0x18)),                   # F14
+        "fabric-f-37h-full-bit-2.acs": snapshot(fabric_f(0x37, [2], 0x007F)),              # F16
+        "fabric-f-20h-full-port-255.acs": snapshot(fabric_f(0x20, [255], 0x007F, 255)),    # F19
+        "fabric-f-20h-ffh-port-255.acs": snapshot(fabric_f(0x20, [255], 0xFF7F, 255)),     # F19
         # Larger ones.
         "chassis.acs": snapshot(chassis(), flags=REFLECT | ROOTS_REACH_EACH_OTHER),
         "deepest.acs": snapshot(deepest()),

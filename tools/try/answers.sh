@@ -17,7 +17,7 @@ expect 0 '257. reaches record 255, endpoint ff:00.0: delivered' \
 expect 0 'enters record 3, downstream port 02:01.0, Port 2: direct to a peer' \
     "$snapshots/fabric-f-18h.acs" 5 completion 03:00.0 --relaxed
 says 0 'enters record 2, downstream port 02:00.0, Port 1: direct to a peer' $run build/demo "$snapshots"
-says 0 'all 17 answers came out as document 01 says' $run build/demo "$snapshots"
+says 0 'All 20 answers came out as docs/RULES.md says' $run build/demo "$snapshots"
 lacks 'port 2' $run build/demo "$snapshots"
 lacks 'endpoint 5' $run build/demo "$snapshots"
 lacks 'port 2' service "$f" 4 write 80100000
@@ -46,6 +46,10 @@ expect 0 'Violation X at record 0, root port 00:01.0, Port 0: the snapshot says'
     "$snapshots/fabric-f-17h-blocking.acs" 4 write 0x80100000
 expect 0 'stopped, violation E (P2P Egress Control)' "$snapshots/fabric-f-20h-bit-2.acs" 4 read 80100000
 expect 0 'ends in a completer abort' "$snapshots/fabric-f-20h-bit-2.acs" 4 read 0x80100000
+# Vectors of 256 bits reach Port Number 255, vectors of 255 do not.
+expect 0 'Violation E at record 2, downstream port 02:00.0, Port 1' \
+    "$snapshots/fabric-f-20h-full-port-255.acs" 4 read 0x80100000
+expect 0 'UNVALIDATED' "$snapshots/fabric-f-20h-ffh-port-255.acs" 4 read 0x80100000
 expect 0 'Undefined: the address is below record 0, root port 00:01.0, Port 0, which it entered from below' \
     "$snapshots/fabric-f-07h.acs" 4 read 0x80100000
 expect 0 'up by Upstream Forwarding, the address being below this very port' "$f" 4 read 0x80000000

@@ -62,6 +62,14 @@ expect 0 'vector of 16: 4-11' "$snapshots/chassis.acs"
 expect 0 '     2  downstream port  02:00.0      1  03-03     1  087Fh       0017h V B R . U . .' "$f"
 patch past "$(at 2 17)" '\006'
 expect 0 'vector of 8: none (past the size, not read: 9-10)' "$folder/past"
+# A size field of 00h: 256 bits with E in the Capability, none without.
+expect 0 'vector of 256: 2' "$snapshots/fabric-f-37h-full-bit-2.acs"
+expect 0 'vector of 256: 255' "$snapshots/fabric-f-20h-full-port-255.acs"
+expect 0 'vector of 255: none (past the size, not read: 255)' "$snapshots/fabric-f-20h-ffh-port-255.acs"
+patch noegress "$(at 2 8)" '\137\000'
+lacks 'vector of 256' service "$folder/noegress"
+expect 0 'vector bit 255 reads 1' "$snapshots/fabric-f-20h-full-port-255.acs" 4 read 80100000
+expect 0 'vector bit 255 reads 0' "$snapshots/fabric-f-20h-ffh-port-255.acs" 4 read 80100000
 for file in "$snapshots"/fabric-f-*.acs; do
     service "$file" --now 2000000000 | grep -v -e ' file ' -e SHA-256 | cksum
 done > "$folder/listings"

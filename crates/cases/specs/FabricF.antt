@@ -1,17 +1,14 @@
--- Fabric F, and the cases F1 to F12 as one table. A case is what is put in and what must come out of the whole answer: the
--- refusals, the record rules and the route.
-use mathlib.Core.Path.{_≡_}
+-- Fabric F, and the cases F1 to F12 as one table.
 use mathlib.Core.Bool.{true, false}
 use mathlib.Core.List.{List, [], _∷_, _++_}
 use Prim.Native.Nat.{ℕ, zero, suc, _*_, _/_, _%_}
 use lib.ListN.{replicate}
 use Rattle.rules.specs.declared.Letter.the-variants.{Source, Translation, Egress, Validation}
-use Rattle.rules.specs.declared.Outcome.{Outcome}
 use Rattle.rules.specs.declared.Outcome.the-variants.{Delivered, Host, Unclaimed, Undefined, Violated}
-use Rattle.rules.specs.Route.{Hop, hop, Trip}
+use Rattle.rules.specs.Route.{hop, Trip}
 use Rattle.rules.specs.Snapshot.{complex}
-use Rattle.rules.specs.Bound.{roomForAll}
-use Rattle.rules.specs.Refuse.{Result, answered, result}
+use Rattle.rules.specs.Refuse.{Result}
+use Rattle.cases.specs.Worked.{Case, case, ends}
 
 -- x in n bytes, little-endian
 unfoldable pub bytes : ℕ → ℕ → List ℕ
@@ -25,27 +22,39 @@ ranges f l = bytes 8 f ++ bytes 8 l ++ shut ++ shut ++ shut ++ shut ++ shut
     shut : List ℕ
     shut = bytes 8 1 ++ bytes 8 0
 
--- a port: kind, Port Number, parent, own bus, byte 5, secondary, subordinate; Capability 087Fh, control, vector byte 0; range 0
-unfoldable pub port : ℕ → ℕ → ℕ → ℕ → ℕ → ℕ → ℕ → ℕ → ℕ → ℕ → ℕ → List ℕ
-port kind number parent own devfn secondary subordinate control vector f l =
-    (kind ∷ number ∷ bytes 2 parent) ++ (own ∷ devfn ∷ secondary ∷ subordinate ∷ bytes 2 0x087F) ++ bytes 2 control
-    ++ bytes 4 0 ++ (vector ∷ replicate 31 0) ++ ranges f l
+-- the ACS registers of a port, and the 32 bytes of its vector
+pub record Registers : Type 0 where
+  pub capability : ℕ
+  pub control : ℕ
+  pub vector : List ℕ
+
+-- a port: kind, Port Number, parent, own bus, byte 5, secondary, subordinate; registers; range 0
+unfoldable pub port : ℕ → ℕ → ℕ → ℕ → ℕ → ℕ → ℕ → Registers → ℕ → ℕ → List ℕ
+port kind number parent own devfn secondary subordinate acs f l =
+    (kind ∷ number ∷ bytes 2 parent) ++ (own ∷ devfn ∷ secondary ∷ subordinate ∷ bytes 2 (acs .capability)) ++ bytes 2 (acs .control)
+    ++ bytes 4 0 ++ acs .vector ++ ranges f l
 
 -- a node that is no port: kind, parent, own bus, secondary, subordinate; range 0
 unfoldable pub node : ℕ → ℕ → ℕ → ℕ → ℕ → ℕ → ℕ → List ℕ
 node kind parent own secondary subordinate f l =
     (kind ∷ 0 ∷ bytes 2 parent) ++ (own ∷ 0 ∷ secondary ∷ subordinate ∷ replicate 40 0) ++ ranges f l
 
--- the snapshot, with these flags, this control and this vector byte on all three ports, taken at 0 and good until 0
-unfoldable pub fabricF : ℕ → ℕ → ℕ → List ℕ
-fabricF flags control vector =
+-- the fabric with these flags, these registers on all three ports and these Port Numbers on nodes 2 and 3, taken at 0 and good until 0
+unfoldable pub fabric : ℕ → Registers → ℕ → ℕ → List ℕ
+unfolding bytes ranges port node
+fabric flags acs number₂ number₃ =
     (0x41 ∷ 0x43 ∷ 0x53 ∷ flags ∷ bytes 2 1) ++ bytes 2 6 ++ bytes 8 0 ++ bytes 8 0
-    ++ port 1 0 complex 0 8 1 4 control vector 0x80000000 0x803FFFFF
+    ++ port 1 0 complex 0 8 1 4 acs 0x80000000 0x803FFFFF
     ++ node 2 0 1 2 4 0x80000000 0x803FFFFF
-    ++ port 3 1 1 2 0 3 3 control vector 0x80000000 0x800FFFFF
-    ++ port 3 2 1 2 8 4 4 control vector 0x80100000 0x801FFFFF
+    ++ port 3 number₂ 1 2 0 3 3 acs 0x80000000 0x800FFFFF
+    ++ port 3 number₃ 1 2 8 4 4 acs 0x80100000 0x801FFFFF
     ++ node 4 2 3 0 0 0x80000000 0x80000FFF
     ++ node 4 3 4 0 0 0x80100000 0x80100FFF
+
+-- Fabric F, with this control and this vector byte 0
+unfoldable pub fabricF : ℕ → ℕ → ℕ → List ℕ
+unfolding fabric
+fabricF flags control vector = fabric flags (record { capability = 0x087F; control = control; vector = vector ∷ replicate 31 0 }) 1 2
 
 -- a request of 1 doubleword with a 12-byte header: byte 0, address type, requester's bus, address
 unfoldable pub request : ℕ → ℕ → ℕ → ℕ → List ℕ
@@ -59,30 +68,20 @@ read = 0x00
 abbrev pub write : ℕ
 write = 0x40
 
-pub record Case : Type 0 where
-  pub snapshot : List ℕ
-  pub header : List ℕ
-  pub wanted : Trip
-
-abbrev pub ends : Outcome → List Hop → Trip
-ends end hops = record { end = end; hops = hops }
-
 -- unless said: flags 02h, and a write from requester 0300h to 80100000h, AT 0
 unfoldable pub plain : List ℕ
+unfolding request
 plain = request write 0 3 0x80100000
 
 abbrev pub set : ℕ → ℕ → List ℕ
 set control vector = fabricF 2 control vector
 
 -- the ways of F1 and of F2
-unfoldable pub directly : Trip
+unfoldable pub directly : Result Trip
 directly = ends (Delivered 5 false) (hop 2 4 ∷ hop 3 6 ∷ hop 5 7 ∷ [])
 
-unfoldable pub byTheTop : Trip
+unfoldable pub byTheTop : Result Trip
 byTheTop = ends (Delivered 5 true) (hop 2 2 ∷ hop 0 5 ∷ hop 0 6 ∷ hop 3 6 ∷ hop 5 7 ∷ [])
-
-abbrev pub case : List ℕ → List ℕ → Trip → Case
-case s h r = record { snapshot = s; header = h; wanted = r }
 
 unfoldable pub table : List Case
 table =
@@ -99,12 +98,3 @@ table =
     ∷ case (set 0x00 0) (request write 0 3 0x80300000) (ends (Unclaimed 1) (hop 2 1 ∷ hop 1 7 ∷ []))  -- F11
     ∷ case (set 0x00 0) (request write 0 3 0x1000) (ends Host (hop 2 1 ∷ hop 0 1 ∷ hop complex 7 ∷ []))  -- F12
     ∷ []
-
--- the answer to the case's query from origin 4 at time 0, with room for 257 hops
-abbrev pub given : Case → Result Trip
-given c = result (c .snapshot) 0 4 (c .header) roomForAll
-
--- each case of the list comes out as wanted
-abbrev pub Every : List Case → Type 0
-Every [] = Unit {0}
-Every (c ∷ l) = (given c ≡ answered (c .wanted)) × Every l

@@ -1,1 +1,2 @@
 pub mod FabricF
+pub mod Worked

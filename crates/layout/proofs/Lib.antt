@@ -1,1 +1,2 @@
+pub mod AcsLaws
 pub mod FieldsLaws

@@ -26,6 +26,9 @@ impl Acs {
 
     pub const T: u16 = 6;
 
+    // Every bit of a vector: all that a size field of 00h stands for.
+    pub const FULL: u16 = 256;
+
     // Bit k is set.
     pub fn on(self, k: u16) -> bool
         requires { ⌜ k < 16 ⌝ }
@@ -38,7 +41,12 @@ impl Acs {
     pub fn size(self) -> u16
         ensures { λ r. ⌜ r ≡ vectorSize (self .0) ⌝ }
     {
-        self.0 / 256
+        let field = self.0 / 256;
+        if self.on(Acs::E) & (field == 0) {
+            Acs::FULL
+        } else {
+            field
+        }
     }
 }
 

@@ -1,5 +1,5 @@
 -- The snapshot's fields. Little-endian: a header of 24 bytes, then records of 144 bytes and nothing more.
-use mathlib.Core.Bool.{Bool, _&&_, _||_, not}
+use mathlib.Core.Bool.{Bool, cond, _&&_, _||_, not}
 use mathlib.Core.List.{List}
 use Prim.Native.Nat.{ℕ, _+_, _*_, _/_, _%_, _≤_}
 use lib.Dec.{eqb, ltb}
@@ -144,9 +144,13 @@ bitE = 5
 abbrev pub bitT : ℕ
 bitT = 6
 
--- vector size in Capability bits 15:8; size s means s bits
+-- vector size in Capability bits 15:8
+abbrev pub sizeField : ℕ → ℕ
+sizeField capability = capability / 256
+
+-- size s means s bits; of a Capability with E "00h means 256 bits; 01h to FFh mean themselves" (document 02, 1/13)
 abbrev pub vectorSize : ℕ → ℕ
-vectorSize capability = capability / 256
+vectorSize capability = cond (bit bitE capability && eqb (sizeField capability) 0) 256 (sizeField capability)
 
 -- a bit whose number is the size or more reads 0 (ours)
 abbrev pub vectorBit : List ℕ → ℕ → ℕ → Bool
