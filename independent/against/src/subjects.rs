@@ -3,9 +3,9 @@
 use std::hint::black_box;
 
 use crate::library;
-use cases::fabric::{fabric_f, request, Fabric, WRITE};
-use cases::shapes::{by_kind, chain, comb, shuffled, slots, wide};
-use model::{HEAD, RECORD, ROOM};
+use cases::fabric::{fabric_f, request, with_bit, Fabric, WRITE};
+use cases::shapes::{by_kind, chain, comb, shuffled, slots, wide, wide_full};
+use model::{acs, HEAD, RECORD, ROOM};
 
 /// The chassis of the examples: four root ports, switches of twelve slots, two
 /// of them with a switch in a slot.
@@ -33,6 +33,7 @@ pub fn subjects() -> Vec<Subject> {
     ];
     list.extend([16, 32, 64, 128, 256].map(Subject::wide));
     list.push(Subject::shuffled());
+    list.push(Subject::full_size());
     list.extend([16, 32, 64, 128, 256].map(Subject::chain));
     list.push(Subject::comb());
     list
@@ -83,6 +84,12 @@ impl Subject {
     fn shuffled() -> Subject {
         let fabric = shuffled(wide(256, FLAGS, CONTROL), 1);
         Subject::first_to_last("wide switch, shuffled", fabric)
+    }
+
+    /// The wide switch with E on too: the last of 256 vector bits redirects.
+    fn full_size() -> Subject {
+        let fabric = with_bit(wide_full(256, FLAGS, CONTROL | acs::E), 255);
+        Subject::first_to_last("wide switch, 256 bits", fabric)
     }
 
     /// From the endpoint at the end of a line of switches to itself.

@@ -1,10 +1,11 @@
 //! An endless row of cases to compare two implementations by.
 
 use crate::damage::{damaged, inside, random_time};
-use crate::fabric::{fabric_f, Fabric};
+use crate::fabric::{fabric_f, with_bit, Fabric};
 use crate::queries::random_query;
 use crate::random::Random;
-use crate::shapes::{chain, random_fabric, roots, wide, with_endpoints};
+use crate::shapes::{chain, random_fabric, random_full, roots};
+use crate::shapes::{wide, wide_full, with_endpoints};
 use model::Word;
 use model::ROOM;
 use model::{check, route};
@@ -111,6 +112,11 @@ fn some_fabric(random: &mut Random) -> Fabric {
             random_fabric(random, records)
         }
         61..=70 => fabric_f(flags, control),
+        71 => with_bit(wide_full(256, flags, control), random.pick(&[254, 255])),
+        72..=150 => {
+            let records = 2 + random.index(11);
+            random_full(random, records)
+        }
         _ => {
             let records = 2 + random.index(11);
             random_fabric(random, records)

@@ -2,11 +2,12 @@
 
 use crate::batches::{Ask, Batch};
 use crate::damage::{break_rule, damaged, inside, random_time, BREAK_COUNT};
-use crate::fabric::{completion, fabric_f, request, Fabric, Record, NO_PARENT};
+use crate::fabric::{completion, fabric_f, request, with_bit, with_capability};
+use crate::fabric::{Fabric, Record, NO_PARENT};
 use crate::fabric::{COMPLETION, DATA_COMPLETION, LONG_READ, LONG_WRITE, READ, WRITE};
 use crate::queries::random_query;
 use crate::random::Random;
-use crate::shapes::{chain, random_fabric, roots, wide, with_endpoints};
+use crate::shapes::{chain, random_fabric, roots, wide_full, with_endpoints};
 use crate::stream::input_bytes;
 use model::acs;
 use model::Input;
@@ -29,6 +30,7 @@ pub fn items() -> Vec<Vec<u8>> {
     corpus.headers();
     corpus.controls();
     corpus.vectors();
+    corpus.full_size_vectors();
     corpus.root_ports();
     corpus.completions();
     corpus.right_edges();
@@ -316,14 +318,23 @@ impl Corpus {
 
     /// The vector is read by Port Number, within its size.
     fn vectors(&mut self) {
-        for number in [1u8, 7, 8, 63, 200, 255] {
-            for size in [0, 1, number, number.saturating_add(1), 255] {
+        // One bit set, and size fields that take it in or just not; 00h is 256 bits.
+        for (number, sizes) in [
+            (1, &[0x00, 0x01, 0x02][..]),
+            (7, &[0x00, 0x07, 0x08]),
+            (8, &[0x00, 0x08, 0x09]),
+            (63, &[0x00, 0x3F, 0x40]),
+            (200, &[0x00, 0xC8, 0xC9, 0xFF]),
+            (254, &[0x00, 0xFE, 0xFF]),
+            (255, &[0x00, 0x01, 0xFF]),
+        ] {
+            for &size in sizes {
                 let mut fabric = fabric_f(2, 0x20);
                 fabric.records[3].port_number = number;
                 fabric.records[2].port_number = 2;
-                fabric.records[2].capability = 0x7F | u16::from(size) << 8;
+                fabric.records[2].capability = 0x7F | size << 8;
                 fabric.records[2].set_vector_bit(number);
-                let kind = if size == 255 { WRITE } else { READ };
+                let kind = if size == 0xFF { WRITE } else { READ };
                 self.ask(&fabric, 4, &request(kind, 0x0300, 0, PEER, 1));
             }
         }
@@ -339,6 +350,36 @@ impl Corpus {
             // A completion doesn't obey the vector.
             self.ask(&fabric, 4, &completion(DATA_COMPLETION, 0x0400, false));
         }
+    }
+
+    /// Request 1/13 of document 02: size field 00h in a Capability with E.
+    fn full_size_vectors(&mut self) {
+        let write = request(WRITE, 0x0300, 0, PEER, 1);
+        let full = |control| with_capability(fabric_f(2, control), 0x007F);
+        // F5, F6 and F7 so, and F7 as a write.
+        self.ask(&full(0x37), 4, &write);
+        self.ask(&with_bit(full(0x37), 2), 4, &write);
+        for kind in [READ, WRITE] {
+            let header = request(kind, 0x0300, 0, PEER, 1);
+            self.ask(&with_bit(full(0x20), 2), 4, &header);
+        }
+        // One bit, though two are set.
+        for number in [0, 1] {
+            let mut fabric = with_capability(fabric_f(2, 0x20), 0x017F);
+            fabric.records[2].port_number = 2;
+            fabric.records[3].port_number = number;
+            fabric.records[2].vector[0] = 3;
+            self.ask(&fabric, 4, &write);
+        }
+        // E in the Capability only, then in neither register.
+        self.ask(&with_bit(full(0x10), 2), 4, &write);
+        for control in [0x10, 0x17] {
+            let without = with_capability(fabric_f(2, control), 0x005F);
+            self.ask(&with_bit(without, 2), 4, &write);
+        }
+        // Root ports have vectors too; those of the two have bit 1 set.
+        let roots = with_capability(two_roots(1, 0x20), 0x007F);
+        self.ask(&roots, 2, &request(READ, 0x0100, 0, 0x9000_0000, 1));
     }
 
     /// Two root ports: what passes between them.
@@ -654,10 +695,9 @@ impl Corpus {
         // 257 hops, from the end of the deepest chain to itself.
         let deepest = chain(256, 2, 0x1F);
         self.ask(&deepest, 255, &request(WRITE, 0xFF00, 0, 0x8000_0000, 1));
-        // 256 records beside each other.
-        let wide = with_bit(wide(256, 1, 0x3F), 127);
+        // 256 records beside each other, and the last of 256 vector bits.
         self.ask(
-            &wide,
+            &with_bit(wide_full(256, 1, 0x3F), 255),
             129,
             &request(READ, 0x0300, 0, 0x8000_0000 + 126 * MIB, 1),
         );
@@ -703,13 +743,6 @@ impl Corpus {
                 .push(input_bytes(&bytes, now, query.origin, &query.header));
         }
     }
-}
-
-fn with_bit(mut fabric: Fabric, number: u8) -> Fabric {
-    for record in fabric.records.iter_mut().filter(|record| record.is_port()) {
-        record.set_vector_bit(number);
-    }
-    fabric
 }
 
 /// A root port and an endpoint.

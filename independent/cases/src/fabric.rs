@@ -129,6 +129,11 @@ impl Fabric {
         bytes
     }
 
+    /// The records of kinds 1 and 3.
+    pub fn ports_mut(&mut self) -> impl Iterator<Item = &mut Record> {
+        self.records.iter_mut().filter(|record| record.is_port())
+    }
+
     /// Indexes of the records of a kind.
     pub fn of_kind(&self, kind: u8) -> Vec<u16> {
         self.matching(|record| record.kind == kind)
@@ -182,6 +187,22 @@ pub fn fabric_f(flags: u8, control: u16) -> Fabric {
                 .range(0, 0x8010_0000, 0x8010_0FFF),
         ],
     )
+}
+
+/// The fabric with this Capability at all ports.
+pub fn with_capability(mut fabric: Fabric, capability: u16) -> Fabric {
+    for port in fabric.ports_mut() {
+        port.capability = capability;
+    }
+    fabric
+}
+
+/// The fabric with this vector bit set at all ports.
+pub fn with_bit(mut fabric: Fabric, number: u8) -> Fabric {
+    for port in fabric.ports_mut() {
+        port.set_vector_bit(number);
+    }
+    fabric
 }
 
 pub const READ: u8 = 0x00;

@@ -1,6 +1,6 @@
 //! Random snapshots that keep the record rules, and the extreme ones.
 
-use crate::fabric::{Fabric, Record, CLOSED, NO_PARENT};
+use crate::fabric::{with_capability, Fabric, Record, CLOSED, NO_PARENT};
 use crate::random::Random;
 use model::acs;
 
@@ -25,6 +25,24 @@ pub fn random_fabric(random: &mut Random, records: usize) -> Fabric {
     tree.set_controls(random);
     let mut fabric = Fabric::new(random.below(4) as u8, tree.records);
     set_times(random, &mut fabric);
+    fabric
+}
+
+/// A random fabric at the upper end of the vectors: Port Numbers are counted from
+/// 255 down, the vectors' bits with them, and the size field is 00h, which with E
+/// is 256 bits, or FFh or FEh. E is on wherever it can be.
+pub fn random_full(random: &mut Random, records: usize) -> Fabric {
+    let mut fabric = random_fabric(random, records);
+    for port in fabric.ports_mut() {
+        port.port_number = 255 - port.port_number;
+        port.vector.reverse();
+        port.vector = port.vector.map(u8::reverse_bits);
+        if port.capability != 0 {
+            let size = random.pick(&[0x00, 0x00, 0xFF, 0xFE]);
+            port.capability = size << 8 | port.capability & 0xFF;
+            port.control |= port.capability & acs::E;
+        }
+    }
     fabric
 }
 
@@ -460,16 +478,16 @@ fn random_capability(random: &mut Random, kind: u8, peer_number: u8) -> u16 {
             bits |= optional;
         }
     }
-    let number = u16::from(peer_number);
     let size = match random.below(6) {
         0 => 0,
-        1 => number,
-        2 => (number + 1).min(255),
+        1 => peer_number,
+        // One more than 255 is 256, which is written 00h.
+        2 => peer_number.wrapping_add(1),
         3 => 8,
         4 => 255,
-        _ => random.below(256) as u16,
+        _ => random.byte(),
     };
-    bits | size << 8
+    bits | u16::from(size) << 8
 }
 
 /// Control bits before those that Capability lacks are taken off.
@@ -578,6 +596,14 @@ pub fn wide(records: usize, flags: u8, control: u16) -> Fabric {
         );
     }
     Fabric::new(flags, list)
+}
+
+/// The same switch with vectors of 256 bits, and Port Number 255 at its last port.
+pub fn wide_full(records: usize, flags: u8, control: u16) -> Fabric {
+    let mut fabric = with_capability(wide(records, flags, control), 0x007F);
+    let ports = fabric.of_kind(3);
+    fabric.record_mut(ports[ports.len() - 1]).port_number = 255;
+    fabric
 }
 
 /// So many root ports (1 to 255), each on its own bus with its own window.

@@ -4,11 +4,12 @@
 use std::collections::BTreeMap;
 
 use cases::batches::Batches;
-use cases::fabric::Fabric;
+use cases::fabric::{Fabric, Record};
 use cases::queries::random_query;
 use cases::random::Random;
-use cases::shapes::{by_kind, chain, comb, random_fabric, roots};
-use cases::shapes::{shuffled, slots, wide, with_endpoints};
+use cases::shapes::{by_kind, chain, comb, random_fabric, random_full, roots};
+use cases::shapes::{shuffled, slots, wide, wide_full, with_endpoints};
+use model::acs;
 use model::Word;
 use model::ROOM;
 use model::{check, route};
@@ -18,12 +19,16 @@ fn random_fabrics_are_accepted() {
     let mut random = Random::new(7);
     for records in (0..60).chain([100, 200, 256]) {
         for _ in 0..20 {
-            let fabric = random_fabric(&mut random, records);
-            assert_eq!(
-                Word(check(&fabric.bytes(), fabric.taken)),
-                Word(0),
-                "{fabric:?}"
-            );
+            for fabric in [
+                random_fabric(&mut random, records),
+                random_full(&mut random, records),
+            ] {
+                assert_eq!(
+                    Word(check(&fabric.bytes(), fabric.taken)),
+                    Word(0),
+                    "{fabric:?}"
+                );
+            }
         }
     }
 }
@@ -36,6 +41,7 @@ fn extreme_fabrics_are_accepted() {
         chain(256, 0, 0x1F),
         wide(64, 3, 0x3F),
         wide(256, 0, 0x17),
+        wide_full(256, 0, 0x37),
         roots(255, 1, 0x14),
         with_endpoints(roots(128, 1, 0), 128),
         slots(8, 15, 2, 0x17),
@@ -44,6 +50,46 @@ fn extreme_fabrics_are_accepted() {
         comb(256, 2, 0x17),
     ] {
         assert_eq!(check(&fabric.bytes(), fabric.until), 0);
+    }
+}
+
+/// Pairs of sibling ports: the first has E on, and the second a Port Number that
+/// one of the last two vector bits is for.
+fn by_last_bits(fabric: &Fabric) -> Vec<(&Record, &Record)> {
+    let ports: Vec<&Record> = fabric.records.iter().filter(|r| r.is_port()).collect();
+    let mut pairs = Vec::new();
+    for &port in ports.iter().filter(|port| port.control & acs::E != 0) {
+        let others = ports.iter().filter(|peer| {
+            peer.parent == port.parent
+                && peer.port_number != port.port_number
+                && peer.port_number >= 254
+        });
+        pairs.extend(others.map(|&peer| (port, peer)));
+    }
+    pairs
+}
+
+#[test]
+fn random_full_fabrics_reach_the_last_bits() {
+    let mut random = Random::new(13);
+    let mut seen: BTreeMap<(u16, u8, bool), usize> = BTreeMap::new();
+    for _ in 0..2000 {
+        let fabric = random_full(&mut random, 8);
+        for (port, peer) in by_last_bits(&fabric) {
+            let number = peer.port_number;
+            let bit = port.vector[31] >> (number - 248) & 1 == 1;
+            let key = (port.capability >> 8, number, bit);
+            *seen.entry(key).or_default() += 1;
+        }
+    }
+    println!("{seen:?}");
+    for size in [0x00, 0xFE, 0xFF] {
+        for number in [254, 255] {
+            for bit in [false, true] {
+                let count = seen.get(&(size, number, bit));
+                assert!(count.is_some_and(|&count| count > 20), "{size} {number}");
+            }
+        }
     }
 }
 

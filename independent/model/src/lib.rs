@@ -1,4 +1,5 @@
-//! The rules of document 01, written down a second time from the documents alone.
+//! The rules of document 01, as request 1/13 of document 02 mends them, written
+//! down a second time from the documents alone.
 //!
 //! - `calls`: the calls of the C interface, one file each, with the order of
 //!   their refusals;

@@ -132,9 +132,19 @@ impl<'a> Node<'a> {
     /// Egress Control Vector, bit k in byte k/8, bit k mod 8. A bit whose number
     /// is the vector size or more reads 0.
     pub fn vector_bit(&self, number: u8) -> bool {
-        let size = self.capability >> 8;
         let byte = self.vector[usize::from(number / 8)];
-        u16::from(number) < size && byte >> (number % 8) & 1 == 1
+        u16::from(number) < self.vector_size() && byte >> (number % 8) & 1 == 1
+    }
+
+    /// Of the size field "00h means 256 bits; 01h to FFh mean themselves", in a
+    /// Capability with E (document 02, 1/13). Without E it stays as it is.
+    // No answer shows the latter: the table asks for a bit where Control has E,
+    // and Control has it only where Capability does.
+    fn vector_size(&self) -> u16 {
+        match self.capability >> 8 {
+            0x00 if self.capability & acs::E != 0 => 256,
+            field => field,
+        }
     }
 
     /// Whether a bus lies in secondary..subordinate.
