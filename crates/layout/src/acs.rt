@@ -42,8 +42,12 @@ impl Acs {
         ensures { λ r. ⌜ r ≡ vectorSize (self .0) ⌝ }
     {
         let field = self.0 / 256;
-        if self.on(Acs::E) & (field == 0) {
-            Acs::FULL
+        if field == 0 {
+            if self.on(Acs::E) {
+                Acs::FULL
+            } else {
+                0 // without E
+            }
         } else {
             field
         }
