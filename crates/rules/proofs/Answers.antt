@@ -11,18 +11,28 @@ use Rattle.rules.specs.declared.Letter.the-variants.{Source, Translation
 use Rattle.rules.specs.declared.Outcome.{Outcome}
 use Rattle.rules.specs.declared.Outcome.the-variants.{Delivered, Host, Unclaimed, Undefined, Violated}
 use Rattle.rules.specs.declared.Refusal.{Refusal}
-use Rattle.rules.specs.declared.Refusal.the-variants.{Malformed, Version, Time, Faulty, Origin, Header, Room}
+use Rattle.rules.specs.declared.Refusal.the-variants.{Malformed, Version, Time, Faulty, Origin, Header, Room, Length, Capabilities}
 use Rattle.rules.specs.declared.Check.{Check}
 use Rattle.rules.specs.declared.Check.the-variants as check
 use Rattle.rules.specs.declared.Answer.{Answer}
 use Rattle.rules.specs.declared.Answer.the-variants.{Refused, Ended}
+use Rattle.rules.specs.declared.Fill.{Fill}
+use Rattle.rules.specs.declared.Fill.the-variants as fill
 use Rattle.rules.specs.Refuse.{Result, refused, answered, verdict}
-use Rattle.rules.specs.Word.{Fields, numberOf, endFields, verdictOf, answerFields}
+use Rattle.rules.specs.Fill.{Extent, filling}
+use Rattle.rules.specs.Word.{Fields, numberOf, endFields, verdictOf, answerFields, fillOf}
 
 -- the refusal that has this number
 abbrev pub refusalOf : ℕ → Refusal
 refusalOf n =
-    cond (eqb n 1) Malformed (cond (eqb n 2) Version (cond (eqb n 3) Time (cond (eqb n 4) Faulty (cond (eqb n 5) Origin (cond (eqb n 6) Header Room)))))
+    cond (eqb n 1) Malformed
+    (cond (eqb n 2) Version
+    (cond (eqb n 3) Time
+    (cond (eqb n 4) Faulty
+    (cond (eqb n 5) Origin
+    (cond (eqb n 6) Header
+    (cond (eqb n 7) Room
+    (cond (eqb n 8) Length Capabilities)))))))
 
 pub refusal-back : (why : Refusal) → refusalOf (numberOf why) ≡ why
 refusal-back Malformed = refl
@@ -32,6 +42,8 @@ refusal-back Faulty = refl
 refusal-back Origin = refl
 refusal-back Header = refl
 refusal-back Room = refl
+refusal-back Length = refl
+refusal-back Capabilities = refl
 
 checkOf : Result (Unit {0}) → Check
 checkOf (refused n i) = check.Refused (refusalOf n) i
@@ -98,3 +110,14 @@ answer-back (Ended end n) =
 
 pub answer-once : (a b : Answer) (x : Fields) → answerFields a ≡ x → answerFields b ≡ x → a ≡ b
 answer-once a b x p q = sym (answer-back a) ∙ ap answerOf (p ∙ sym q) ∙ answer-back b
+
+abbrev fillFrom : Result Extent → Fill
+fillFrom (refused n i) = fill.Refused (refusalOf n) i
+fillFrom (answered x) = fill.Filled (x .offset) (x .length)
+
+fill-back : (f : Fill) → fillFrom (fillOf f) ≡ f
+fill-back (fill.Refused why i) = ap (λ (w : Refusal). fill.Refused w i) (refusal-back why)
+fill-back (fill.Filled offset length) = refl
+
+pub fill-once : (image r : List ℕ) (a b : Fill) → fillOf a ≡ filling image r → fillOf b ≡ filling image r → a ≡ b
+fill-once image r a b p q = sym (fill-back a) ∙ ap fillFrom (p ∙ sym q) ∙ fill-back b

@@ -12,4 +12,6 @@ pub mod Properties
 pub mod Accepted
 pub mod Tight
 pub mod Bound
+pub mod Image
+pub mod Fill
 pub mod Word

@@ -1,5 +1,5 @@
 -- The answer as numbers: the eight bytes of the answer word, and the value of each for every case. Refusal numbers, indexes, nodes and
--- hop counts are document 01's; kinds and letters have the numbers of the C interface.
+-- hop counts are the documents'; kinds and letters have the numbers of the C interface.
 use mathlib.Core.Bool.{cond}
 use Prim.Native.Nat.{ℕ, _+_, _*_, _^_}
 use lib.ListN.{length}
@@ -9,13 +9,16 @@ use Rattle.rules.specs.declared.Letter.the-variants.{Source, Translation
 use Rattle.rules.specs.declared.Outcome.{Outcome}
 use Rattle.rules.specs.declared.Outcome.the-variants.{Delivered, Host, Unclaimed, Undefined, Violated}
 use Rattle.rules.specs.declared.Refusal.{Refusal}
-use Rattle.rules.specs.declared.Refusal.the-variants.{Malformed, Version, Time, Faulty, Origin, Header, Room}
+use Rattle.rules.specs.declared.Refusal.the-variants.{Malformed, Version, Time, Faulty, Origin, Header, Room, Length, Capabilities}
 use Rattle.rules.specs.declared.Check.{Check}
 use Rattle.rules.specs.declared.Check.the-variants as check
 use Rattle.rules.specs.declared.Answer.{Answer}
 use Rattle.rules.specs.declared.Answer.the-variants as answer
 use Rattle.rules.specs.Route.{Trip}
+use Rattle.rules.specs.declared.Fill.{Fill}
+use Rattle.rules.specs.declared.Fill.the-variants as fill
 use Rattle.rules.specs.Refuse.{Result, refused, answered}
+use Rattle.rules.specs.Fill.{Extent, extent}
 
 pub record Fields : Type 0 where
   -- 0 delivered unvalidated, 1 delivered checked, 2 host, 3 unclaimed, 4 undefined, 5 violation, 6 refused
@@ -41,6 +44,8 @@ numberOf Faulty = 4
 numberOf Origin = 5
 numberOf Header = 6
 numberOf Room = 7
+numberOf Length = 8
+numberOf Capabilities = 9
 
 abbrev pub letterNumber : Letter → ℕ
 letterNumber Source = 0
@@ -71,6 +76,11 @@ abbrev pub verdictWord : Result (Unit {0}) → ℕ
 verdictWord (refused number i) = wordOf (refusalFields number i)
 verdictWord (answered ok) = 0
 
+-- of a fill: byte 0 is 0; bytes 2-3 the offset of the ACS structure in the image, bytes 4-5 its length; else the refusal
+abbrev pub fillFields : Result Extent → Fields
+fillFields (refused number i) = refusalFields number i
+fillFields (answered x) = fields 0 0 (x .offset) (x .length) 0
+
 -- the numbers for each case of what the code answers
 abbrev pub verdictOf : Check → Result (Unit {0})
 verdictOf check.Accepted = answered tt
@@ -79,3 +89,7 @@ verdictOf (check.Refused why i) = refused (numberOf why) i
 abbrev pub answerFields : Answer → Fields
 answerFields (answer.Refused why i) = refusalFields (numberOf why) i
 answerFields (answer.Ended end count) = endFields end count
+
+abbrev pub fillOf : Fill → Result Extent
+fillOf (fill.Refused why i) = refused (numberOf why) i
+fillOf (fill.Filled offset length) = answered (extent offset length)

@@ -1,4 +1,4 @@
-// The nouns of document 01, by value. What they mean stands in specs/, what follows from it in
+// The nouns of documents 01 and 02, by value. What they mean stands in specs/, what follows from it in
 // proofs/; no function stands here.
 
 // A Port Number is no bus number and no device number: each has a type of its own, and only a Port
@@ -91,7 +91,17 @@ pub enum Move {
     Beyond(Outcome, u16, u8),
 }
 
-// Why an input is refused, in the order of document 01's numbers, 1 to 7.
+// Where a configuration space image has its ACS structure.
+pub enum Structure {
+    // its offset and its length
+    Stands(u16, u16),
+    // the list ends without one
+    Absent,
+    // the list is bad, or the structure is
+    Bad,
+}
+
+// Why an input is refused, in the order of the documents' numbers, 1 to 9.
 pub enum Refusal {
     Malformed,
     Version,
@@ -100,6 +110,8 @@ pub enum Refusal {
     Origin,
     Header,
     Room,
+    Length,
+    Capabilities,
 }
 
 // What the check of a snapshot gives: it is accepted, or refused with an index.
@@ -112,4 +124,11 @@ pub enum Check {
 pub enum Answer {
     Refused(Refusal, u16),
     Ended(Outcome, u16),
+}
+
+// What the filling of a record comes to: a refusal with its index, or the offset and the length of the
+// ACS structure, both 0 where there is none.
+pub enum Fill {
+    Refused(Refusal, u16),
+    Filled(u16, u16),
 }

@@ -1,0 +1,92 @@
+-- A record filled from a configuration space image (document 02, 2/13): what is written where, what stays, and what is refused.
+use mathlib.Core.Bool.{Bool, true, false, _&&_}
+use mathlib.Core.List.{List, [], _∷_, _++_}
+use Prim.Native.Nat.{ℕ, zero, suc, _+_, _/_, _%_}
+use lib.Dec.{eqb}
+use lib.ListN.{length}
+use lib.Seq.{sets}
+use Rattle.rules.specs.declared.Structure.{Structure}
+use Rattle.rules.specs.declared.Structure.the-variants.{Stands, Absent, Bad}
+use Rattle.rules.specs.Bytes.{byte}
+use Rattle.rules.specs.Image.{imageSize, primaryBus, secondaryBus, subordinateBus, Range, memoryWindow, prefetchableWindow}
+use Rattle.rules.specs.Image.{acsStructure, partOf}
+use Rattle.rules.specs.Refuse.{Result, refused, answered, unless, through}
+
+-- a record of a snapshot
+abbrev pub recordSize : ℕ
+recordSize = 144
+
+-- n bytes from i on; past the end they are 0
+abbrev pub bytesFrom : ℕ → List ℕ → ℕ → List ℕ
+bytesFrom zero b i = []
+bytesFrom (suc n) b i = byte b i ∷ bytesFrom n b (i + 1)
+
+-- a number in n bytes, little-endian
+abbrev pub leBytes : ℕ → ℕ → List ℕ
+leBytes zero x = []
+leBytes (suc n) x = x % 256 ∷ leBytes n (x / 256)
+
+abbrev pub rangeBytes : Range → List ℕ
+rangeBytes r = leBytes 8 (r .first) ++ leBytes 8 (r .last)
+
+-- the bytes that are written from a byte of the record on
+pub record Field : Type 0 where
+  pub from : ℕ
+  pub bytes : List ℕ
+
+abbrev pub field : ℕ → List ℕ → Field
+field from bytes = record { from = from; bytes = bytes }
+
+-- "fill a record's bus numbers, windows and ACS fields", of the ACS structure acs. "A list that ends without ACS gives Capability and
+-- Control 0": of an empty part every byte reads 0. "Vector bytes not read are 0.": they are past the structure's end.
+abbrev pub filledFields : List ℕ → List ℕ → List Field
+filledFields image acs =
+    field 4 (primaryBus image ∷ [])
+    ∷ field 6 (secondaryBus image ∷ subordinateBus image ∷ [])
+    ∷ field 8 (bytesFrom 2 acs 4)  -- Capability
+    ∷ field 10 (bytesFrom 2 acs 6)  -- Control
+    ∷ field 16 (bytesFrom 32 acs 8)  -- Egress Control Vector
+    ∷ field 48 (rangeBytes (memoryWindow image))
+    ∷ field 64 (rangeBytes (prefetchableWindow image))
+    ∷ []
+
+-- "Other record bytes stay"
+abbrev pub fillAll : List Field → List ℕ → List ℕ
+fillAll [] r = r
+fillAll (x ∷ l) r = fillAll l (sets r (x .from) (x .bytes))
+
+unfoldable pub filled : List ℕ → List ℕ → List ℕ
+filled image r = fillAll (filledFields image (partOf image (acsStructure image))) r
+
+-- where the ACS structure stands; both 0 where there is none
+pub record Extent : Type 0 where
+  pub offset : ℕ
+  pub length : ℕ
+
+abbrev pub extent : ℕ → ℕ → Extent
+extent offset length = record { offset = offset; length = length }
+
+abbrev pub extentOf : Structure → Extent
+extentOf (Stands at n) = extent at n
+extentOf Absent = extent 0 0
+extentOf Bad = extent 0 0
+
+-- "8 image not 4,096 bytes", "8 also for a record not 144 bytes, before 9"
+unfoldable pub wholeSizes : List ℕ → List ℕ → Bool
+wholeSizes image r = eqb (length image) imageSize && eqb (length r) recordSize
+
+-- 9: the list or the ACS structure is bad
+abbrev pub isSound : Structure → Bool
+isSound (Stands at n) = true
+isSound Absent = true
+isSound Bad = false
+
+-- "Here and below a new refusal's index is 0 unless named."
+unfoldable pub filling : List ℕ → List ℕ → Result Extent
+filling image r =
+    through (unless (wholeSizes image r) 8 ∷ unless (isSound (acsStructure image)) 9 ∷ []) (answered (extentOf (acsStructure image)))
+
+-- "Other record bytes stay, and on a refusal all of them."
+abbrev pub recordAfter : Result Extent → List ℕ → List ℕ → List ℕ
+recordAfter (refused number i) image r = r
+recordAfter (answered x) image r = filled image r
