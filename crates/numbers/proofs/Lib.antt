@@ -1,3 +1,4 @@
 pub mod Eight
 pub mod Digits
 pub mod Laid
+pub mod NumbersLaws

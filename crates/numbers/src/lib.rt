@@ -5,5 +5,8 @@ mod powers;
 
 pub use numbers::is_zero;
 pub use numbers::le_u16;
+pub use numbers::le_u32;
 pub use numbers::le_u64;
+pub use numbers::put_bytes;
+pub use numbers::put_le_u64;
 pub use powers::span_fine;

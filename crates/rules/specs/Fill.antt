@@ -5,10 +5,11 @@ use Prim.Native.Nat.{ℕ, zero, suc, _+_, _/_, _%_}
 use lib.Dec.{eqb}
 use lib.ListN.{length}
 use lib.Seq.{sets}
+use Rattle.rules.specs.declared.Range.{Range}
 use Rattle.rules.specs.declared.Structure.{Structure}
 use Rattle.rules.specs.declared.Structure.the-variants.{Stands, Absent, Bad}
 use Rattle.rules.specs.Bytes.{byte}
-use Rattle.rules.specs.Image.{imageSize, primaryBus, secondaryBus, subordinateBus, Range, memoryWindow, prefetchableWindow}
+use Rattle.rules.specs.Image.{imageSize, primaryBus, secondaryBus, subordinateBus, memoryWindow, prefetchableWindow}
 use Rattle.rules.specs.Image.{acsStructure, partOf}
 use Rattle.rules.specs.Refuse.{Result, refused, answered, unless, through}
 

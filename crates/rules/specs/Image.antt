@@ -6,6 +6,7 @@ use lib.Dec.{eqb, leb, ltb}
 use lib.ListN.{length, take, drop}
 use Rattle.rules.specs.Bytes.{byte, le, bit}
 use Rattle.rules.specs.Snapshot.{bitE, vectorSize}
+use Rattle.rules.specs.declared.Range.{Range}
 use Rattle.rules.specs.declared.Structure.{Structure}
 use Rattle.rules.specs.declared.Structure.the-variants.{Stands, Absent, Bad}
 
@@ -22,11 +23,6 @@ secondaryBus image = byte image 0x19
 
 abbrev pub subordinateBus : List ℕ → ℕ
 subordinateBus image = byte image 0x1A
-
--- a range's first and last address
-pub record Range : Type 0 where
-  pub first : ℕ
-  pub last : ℕ
 
 abbrev pub range : ℕ → ℕ → Range
 range f l = record { first = f; last = l }

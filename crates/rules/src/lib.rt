@@ -91,6 +91,19 @@ pub enum Move {
     Beyond(Outcome, u16, u8),
 }
 
+// The bus numbers of a bridge.
+pub struct Buses {
+    pub primary: Bus,
+    pub secondary: Bus,
+    pub subordinate: Bus,
+}
+
+// A range of addresses, first and last; a closed one is (1, 0).
+pub struct Range {
+    pub first: u64,
+    pub last: u64,
+}
+
 // Where a configuration space image has its ACS structure.
 pub enum Structure {
     // its offset and its length
