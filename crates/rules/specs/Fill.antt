@@ -18,17 +18,21 @@ abbrev pub recordSize : ℕ
 recordSize = 144
 
 -- n bytes from i on; past the end they are 0
-abbrev pub bytesFrom : ℕ → List ℕ → ℕ → List ℕ
+unfoldable pub bytesFrom : ℕ → List ℕ → ℕ → List ℕ
 bytesFrom zero b i = []
 bytesFrom (suc n) b i = byte b i ∷ bytesFrom n b (i + 1)
 
 -- a number in n bytes, little-endian
-abbrev pub leBytes : ℕ → ℕ → List ℕ
+unfoldable pub leBytes : ℕ → ℕ → List ℕ
 leBytes zero x = []
 leBytes (suc n) x = x % 256 ∷ leBytes n (x / 256)
 
-abbrev pub rangeBytes : Range → List ℕ
+unfoldable pub rangeBytes : Range → List ℕ
 rangeBytes r = leBytes 8 (r .first) ++ leBytes 8 (r .last)
+
+-- a record with these bytes from one of its bytes on, and the others as they were
+unfoldable pub stored : List ℕ → ℕ → List ℕ → List ℕ
+stored r from bytes = sets r from bytes
 
 -- the bytes that are written from a byte of the record on
 pub record Field : Type 0 where
@@ -54,7 +58,7 @@ filledFields image acs =
 -- "Other record bytes stay"
 abbrev pub fillAll : List Field → List ℕ → List ℕ
 fillAll [] r = r
-fillAll (x ∷ l) r = fillAll l (sets r (x .from) (x .bytes))
+fillAll (x ∷ l) r = fillAll l (stored r (x .from) (x .bytes))
 
 unfoldable pub filled : List ℕ → List ℕ → List ℕ
 filled image r = fillAll (filledFields image (partOf image (acsStructure image))) r
@@ -82,10 +86,12 @@ isSound (Stands at n) = true
 isSound Absent = true
 isSound Bad = false
 
+unfoldable pub listed : Structure → Result Extent
+listed acs = through (unless (isSound acs) 9 ∷ []) (answered (extentOf acs))
+
 -- "Here and below a new refusal's index is 0 unless named."
 unfoldable pub filling : List ℕ → List ℕ → Result Extent
-filling image r =
-    through (unless (wholeSizes image r) 8 ∷ unless (isSound (acsStructure image)) 9 ∷ []) (answered (extentOf (acsStructure image)))
+filling image r = through (unless (wholeSizes image r) 8 ∷ []) (listed (acsStructure image))
 
 -- "Other record bytes stay, and on a refusal all of them."
 abbrev pub recordAfter : Result Extent → List ℕ → List ℕ → List ℕ

@@ -68,7 +68,7 @@ isAcs image at = eqb (capabilityId image at) 0x000D
 
 -- The ACS structure at an offset has its Capability register 4 bytes on, Control 6, the vector 8. "its structure is 8 bytes, plus
 -- with E the vector in whole doublewords" of 32 bits
-unfoldable pub structureLength : ℕ → ℕ
+abbrev pub structureLength : ℕ → ℕ
 structureLength capability = 8 + cond (bit bitE capability) (4 * ((vectorSize capability + 31) / 32)) 0
 
 -- 9: "an ACS structure of another version or running past the image"
@@ -82,7 +82,7 @@ abbrev pub listStart : ℕ
 listStart = 0x100
 
 -- "a multiple of 4 from 100h"
-unfoldable pub isOffset : ℕ → Bool
+abbrev pub isOffset : ℕ → Bool
 isOffset at = leb listStart at && eqb (at % 4) 0
 
 -- the offset is one of these
