@@ -1,9 +1,11 @@
-// The C interface: check and route on numbers and byte slices, each answer one word.
+// The C interface: check, route and fill on numbers and byte slices, each answer one word.
+use config::fill::fill;
 use layout::fields::COMPLEX;
 use route::answer::route;
 use route::refusals::refusal_number;
 use rules::Answer;
 use rules::Check;
+use rules::Fill;
 use rules::Letter;
 use rules::Outcome;
 use snapshot::check::check;
@@ -11,7 +13,7 @@ ghost use mathlib.Core.Path.{_≡_};
 ghost use mathlib.Core.Bool.{cond};
 ghost use Prim.Native.Nat.{_+_, _*_};
 ghost use Rattle.rules.specs.Word.{letterNumber, endFields, wordOf, fields};
-ghost use Rattle.acs.specs.Promise.{answerWord, wordOfCheck, Judged, Routed};
+ghost use Rattle.acs.specs.Promise.{answerWord, wordOfCheck, wordOfFill, Judged, Routed, Filled};
 
 fn one_if(b: bool) -> u8
     ensures { λ r. ⌜ r ≡ cond b 1 0 ⌝ }
@@ -71,6 +73,15 @@ fn check_word(c: Check) -> u64
     }
 }
 
+fn fill_word(f: Fill) -> u64
+    ensures { λ r. ⌜ r ≡ wordOfFill f ⌝ }
+{
+    match f {
+        Fill::Refused(why, i) => word(6, refusal_number(why), i, 0, 0),
+        Fill::Filled(offset, length) => word(0, 0, offset, length, 0),
+    }
+}
+
 // 0 for an accepted snapshot, else the refusal word.
 #[no_mangle]
 pub extern "C" fn acs_check(snapshot: &[u8], time: u64) -> u64
@@ -91,4 +102,13 @@ pub extern "C" fn acs_route(
     ensures { λ r. ⌜ Routed (now (snapshot .entry)) time origin (now (header .entry)) (now (hops .entry)) r (now (hops .exit)) ⌝ }
 {
     answer_word(route(snapshot, time, origin, header, hops))
+}
+
+// The word with the offset and the length of the ACS structure, and the record filled from the image;
+// a refusal leaves every byte of the record as it was.
+#[no_mangle]
+pub extern "C" fn acs_fill(image: &[u8], into: &mut [u8]) -> u64
+    ensures { λ r. ⌜ Filled (now (image .entry)) (now (into .entry)) r (now (into .exit)) ⌝ }
+{
+    fill_word(fill(image, into))
 }

@@ -14,5 +14,7 @@ pub fn refusal_number(why: Refusal) -> u8
         Refusal::Origin => 5,
         Refusal::Header => 6,
         Refusal::Room => 7,
+        Refusal::Length => 8,
+        Refusal::Capabilities => 9,
     }
 }
