@@ -12,4 +12,6 @@ pub mod Strict
 pub mod Hops
 pub mod Unique
 pub mod Entered
+pub mod Visited
+pub mod Filled
 pub mod Theorems

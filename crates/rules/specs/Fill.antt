@@ -1,14 +1,16 @@
 -- A record filled from a configuration space image (document 02, 2/13): what is written where, what stays, and what is refused.
-use mathlib.Core.Bool.{Bool, true, false, _&&_}
+use mathlib.Core.Path.{_≡_}
+use mathlib.Core.Bool.{Bool, true, false, _&&_, _||_, not}
 use mathlib.Core.List.{List, [], _∷_, _++_}
-use Prim.Native.Nat.{ℕ, zero, suc, _+_, _/_, _%_}
+use Prim.Native.Nat.{ℕ, zero, suc, _+_, _/_, _%_, _<_}
 use lib.Dec.{eqb}
 use lib.ListN.{length}
 use lib.Seq.{sets}
 use Rattle.rules.specs.declared.Range.{Range}
 use Rattle.rules.specs.declared.Structure.{Structure}
 use Rattle.rules.specs.declared.Structure.the-variants.{Stands, Absent, Bad}
-use Rattle.rules.specs.Bytes.{byte}
+use Rattle.rules.specs.Bytes.{byte, within}
+use Rattle.rules.specs.Snapshot.{base}
 use Rattle.rules.specs.Image.{imageSize, primaryBus, secondaryBus, subordinateBus, memoryWindow, prefetchableWindow}
 use Rattle.rules.specs.Image.{acsStructure, partOf}
 use Rattle.rules.specs.Refuse.{Result, refused, answered, unless, through}
@@ -97,3 +99,24 @@ filling image r = through (unless (wholeSizes image r) 8 ∷ []) (listed (acsStr
 abbrev pub recordAfter : Result Extent → List ℕ → List ℕ → List ℕ
 recordAfter (refused number i) image r = r
 recordAfter (answered x) image r = filled image r
+
+-- a byte of no field that is filled
+abbrev pub isOther : ℕ → Bool
+isOther k = not (eqb k 4 || within 6 k 11 || within 16 k 79)
+
+-- The record byte by byte after a fill: what is filled, of an image and the ACS structure acs, and that every other byte stays.
+pub record ByteByByte (image acs before after : List ℕ) : Type 0 where
+  pub size : length after ≡ length before
+  pub own : byte after 4 ≡ primaryBus image
+  pub secondary : byte after 6 ≡ secondaryBus image
+  pub subordinate : byte after 7 ≡ subordinateBus image
+  pub capability : (k : ℕ) → k < 2 → byte after (8 + k) ≡ byte acs (4 + k)
+  pub control : (k : ℕ) → k < 2 → byte after (10 + k) ≡ byte acs (6 + k)
+  pub vector : (k : ℕ) → k < 32 → byte after (16 + k) ≡ byte acs (8 + k)
+  pub memory : (k : ℕ) → k < 16 → byte after (48 + k) ≡ byte (rangeBytes (memoryWindow image)) k
+  pub prefetchable : (k : ℕ) → k < 16 → byte after (64 + k) ≡ byte (rangeBytes (prefetchableWindow image)) k
+  pub others : (k : ℕ) → isOther k ≡ true → byte after k ≡ byte before k
+
+-- record i of the snapshot s has these bytes
+pub record Holds (s : List ℕ) (i : ℕ) (r : List ℕ) : Type 0 where
+  pub bytes : (k : ℕ) → k < recordSize → byte s (base i + k) ≡ byte r k
