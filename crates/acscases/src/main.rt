@@ -1,9 +1,10 @@
-// Answers a stream of queries on standard input: each item is a 4-byte length, little-endian, and that
-// many bytes, an input of `acsroute`. What it prints for an item is `report`'s text. It ends with the
-// stream, or at an item that is cut off.
+// Answers a stream of items on standard input: each has its length, 4 bytes, little-endian, and that
+// many bytes, a call with its arguments. It ends with the stream, or at an item that is cut off.
+mod items;
+mod line;
+
 use libc::STDIN_FILENO;
-use libc::STDOUT_FILENO;
-use numbers::le_u16;
+use numbers::le_u32;
 ghost use Prim.Native.Nat.{_≤_};
 ghost use lib.ListN.{length};
 
@@ -35,44 +36,34 @@ fn pass_all(count: usize) -> bool {
     pass(left)
 }
 
-// The length before an item.
-fn length_of(prefix: &[u8; 4]) -> usize {
-    (le_u16(prefix, 0) as usize) + 0x10000 * (le_u16(prefix, 2) as usize)
-}
-
-fn least(a: usize, b: usize) -> usize
-    ensures { λ r. ⌜ (r ≤ a) × (r ≤ b) ⌝ }
-{
-    if a < b { a } else { b }
-}
-
-fn print(input: &[u8]) -> bool {
-    let mut text = io::buffer();
-    let n = report::report(input, &mut text);
-    io::write_all(STDOUT_FILENO, &text[..n])
-}
-
-// Answers an item of this length, as much of it as has room.
-fn answer_item(length: usize, room: &mut [u8]) -> bool {
-    let kept = least(length, room.len());
-    if read_whole(kept, room) {
-        if pass_all(length - kept) {
-            return print(&room[..kept]);
-        }
+// An item for which there is no room.
+fn answer_long(length: usize) -> bool {
+    if pass_all(length) {
+        return items::bad();
     }
     false
 }
 
-// Answers one item, and whether to go on. There is room for one byte more than the longest right input
-// has: what is longer is not framed right either way.
+// Answers an item of this length, and whether to go on.
+fn answer_item(length: usize, room: &mut [u8]) -> bool {
+    if length <= room.len() {
+        if read_whole(length, room) {
+            return items::answer(&room[..length]);
+        }
+        return false;
+    }
+    answer_long(length)
+}
+
+// Answers one item, and whether to go on.
 fn answer() -> bool {
     let mut prefix = [0u8; 4];
     let got = io::read_full(STDIN_FILENO, &mut prefix);
     if got < 4 {
         return false;
     }
-    let mut room = [0u8; 65804];
-    answer_item(length_of(&prefix), &mut room)
+    let mut room = [0u8; 131072];
+    answer_item(le_u32(&prefix, 0) as usize, &mut room)
 }
 
 // A proved loop has to end, and nothing says that a stream does: the turns are counted down from a

@@ -12,6 +12,7 @@ ghost use Rattle.rules.specs.Word.{fillOf};
 
 // The bytes of an image, and of a record.
 const IMAGE: usize = 4096;
+
 const RECORD: usize = 144;
 
 // The list is well made, whether it has an ACS structure or not.

@@ -112,7 +112,7 @@ lists =
     ∷ listed (other 0x100 0x104 ∷ other 0x104 0xFF8 ∷ short 0xFF8 1 0x005F ∷ []) 0xFF8 8 0x005F 0x001D 0  -- last, without E
     ∷ bad (other 0x100 0xFF8 ∷ short 0xFF8 1 0x087F ∷ [])  -- with E its vector runs past the image
     ∷ listed (other 0x100 0xFF4 ∷ field 0xFF4 (header 0x000D 1 0 ++ registers 0x087F 0x001D ++ replicate 4 0xEE) ∷ [])
-        0xFF4 12 0x087F 0x001D 4  -- and fits 4 bytes below
+    0xFF4 12 0x087F 0x001D 4  -- and fits 4 bytes below
     ∷ bad (other 0x100 0xFFC ∷ field 0xFFC (header 0x000D 1 0) ∷ [])  -- its Capability is not there
     ∷ bad (short 0x100 2 0x005F ∷ [])  -- version 2
     ∷ bad (short 0x100 0 0x005F ∷ [])  -- version 0

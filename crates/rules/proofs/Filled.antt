@@ -199,8 +199,8 @@ read-back (suc n) x b i l h =
     let e : i + 0 ≡ i = omega arith in
     let low : byte b i ≡ x % 256 = sym (ap (byte b) e) ∙ h 0 (omega arith) in
     let high : le n b (i + 1) ≡ x / 256 =
-        read-back n (x / 256) b (i + 1) (omega arith)
-        (λ j m. let f : i + 1 + j ≡ i + suc j = omega arith in ap (byte b) f ∙ h (suc j) (omega arith)) in
+    read-back n (x / 256) b (i + 1) (omega arith)
+    (λ j m. let f : i + 1 + j ≡ i + suc j = omega arith in ap (byte b) f ∙ h (suc j) (omega arith)) in
     omega arith
 
 -- a window of these edges is closed, or as a bridge wants it
@@ -263,7 +263,7 @@ module _ (image : List ℕ) (are : AreBytes image) where
       let e : base i + 48 + 16 * k + 8 ≡ base i + 56 + 16 * k = omega arith in
       let f : first s i k ≡ window low high .first = first-back (window low high) s (base i + 48 + 16 * k) same (below .0) in
       let l : last s i k ≡ window low high .last =
-          sym (ap (le 8 s) e) ∙ last-back (window low high) s (base i + 48 + 16 * k) same (below .1) in
+      sym (ap (le 8 s) e) ∙ last-back (window low high) s (base i + 48 + 16 * k) same (below .1) in
       rw (bridge, f, l) (window-keeps k low high h a b c)
 
   pub windows-keep-rule : (r s : List ℕ) (i : ℕ) → length r ≡ recordSize → Holds s i (filled image r) → isBridge (kind s i) ≡ true

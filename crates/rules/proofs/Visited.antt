@@ -55,11 +55,14 @@ lower k [] h = tt
 lower k (y ∷ l) (v, (b, (n, h))) =
     either (eqb (listStart + 4 * k) y) (λ e. rw e (lower k l h))
     (λ e.
-    rw e
-    (v,
-      (let f : y % 4 ≡ 0 = eqb-true (y % 4) 0 (both (leb listStart y) (eqb (y % 4) 0) v .1) in
-      below y f b (eqb-false (listStart + 4 * k) y e),
-        (still-not y (listStart + 4 * k) l n, lower k l h))))
+    rw e (
+      v,
+      (
+        let f : y % 4 ≡ 0 = eqb-true (y % 4) 0 (both (leb listStart y) (eqb (y % 4) 0) v .1) in
+            below y f b (eqb-false (listStart + 4 * k) y e),
+        (still-not y (listStart + 4 * k) l n, lower k l h),
+      ),
+    ))
   where
     below : (z : ℕ) → z % 4 ≡ 0 → z < listStart + 4 * suc k → (listStart + 4 * k ≡ z → ⊥) → z < listStart + 4 * k
     below z f l ne = either (leb (listStart + 4 * k) z) (λ p. absurd (ne (let q = leb-true (listStart + 4 * k) z p in omega arith))) (λ p. leb-false (listStart + 4 * k) z p)

@@ -8,6 +8,5 @@ use Rattle.acscases.proofs.answer_item.Tie as tie
 
 pub answer-item-spec : {M : Type 1} → statement M
 answer-item-spec = tie.close (tie.spec
-    (λ c κs. search needs) (λ c κs. search needs) (λ c. search needs) (λ c κs. search needs) (λ c. search needs)
-    (λ c. sym (length-take-le _ _ (omega arith))) (λ c κs. search needs) (λ c. search needs) (λ c. search needs) (λ c. search needs)
-    (λ c. search needs) (λ c. search needs) (λ c. search needs))
+    (λ c κs. search needs) (λ c. search needs) (λ c. sym (length-take-le _ _ (omega arith))) (λ c κs. search needs) (λ c. search needs)
+    (λ c. search needs) (λ c. search needs) (λ c. search needs) (λ c κs. search needs) (λ c. search needs))
