@@ -5,8 +5,8 @@ use libc::STDOUT_FILENO;
 use numbers::le_u32;
 use numbers::put_bytes;
 
-// The most bytes of an item.
-const MOST: usize = 131072;
+// The most bytes of what an item lends.
+const LENT: usize = 65536;
 
 // What is printed for an item that is not well made.
 pub fn bad() -> bool {
@@ -27,9 +27,9 @@ fn fill_and_put(image: &[u8], record: &mut [u8]) -> bool {
 }
 
 fn fill(image: &[u8], given: &[u8]) -> bool {
-    let mut record = [0u8; MOST];
+    let mut record = io::large_buffer();
     let n = given.len();
-    if n <= MOST {
+    if n <= LENT {
         put_bytes(&mut record, 0, n, given, 0);
         return fill_and_put(image, &mut record[..n]);
     }

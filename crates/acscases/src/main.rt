@@ -5,6 +5,7 @@ mod line;
 
 use libc::STDIN_FILENO;
 use numbers::le_u32;
+ghost use mathlib.Core.Path.{_≡_};
 ghost use Prim.Native.Nat.{_≤_};
 ghost use lib.ListN.{length};
 
@@ -55,6 +56,13 @@ fn answer_item(length: usize, room: &mut [u8]) -> bool {
     answer_long(length)
 }
 
+// Room for an item.
+fn room() -> [u8; 131072]
+    ensures { λ r. ⌜ 131072 ≡ length r ⌝ }
+{
+    [0; 131072]
+}
+
 // Answers one item, and whether to go on.
 fn answer() -> bool {
     let mut prefix = [0u8; 4];
@@ -62,7 +70,7 @@ fn answer() -> bool {
     if got < 4 {
         return false;
     }
-    let mut room = [0u8; 131072];
+    let mut room = room();
     answer_item(le_u32(&prefix, 0) as usize, &mut room)
 }
 
