@@ -11,6 +11,7 @@ pub mod batches;
 pub mod corpus;
 pub mod damage;
 pub mod fabric;
+pub mod images;
 pub mod queries;
 pub mod random;
 pub mod shapes;
