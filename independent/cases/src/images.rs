@@ -2,7 +2,7 @@
 
 use model::{acs, IMAGE};
 
-/// The ID of ACS, and the IDs beside it.
+/// The ID of ACS.
 pub const ACS: u16 = 0x000D;
 /// Where the list starts, and the last place for a header.
 pub const START: u16 = 0x100;

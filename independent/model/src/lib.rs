@@ -15,13 +15,15 @@
 //!   structure in it (`structure`);
 //! - `filling`: writing into a record what an image says;
 //! - `answer`: refusals, outcomes, hops and the answer word;
-//! - `acsroute`: what the program of that name prints.
+//! - `acsroute`: what the program of that name prints;
+//! - `gate`: what is printed for an item of the gate's corpus.
 
 mod acsroute;
 mod answer;
 mod bytes;
 mod calls;
 mod filling;
+pub mod gate;
 mod header;
 mod hops;
 mod image;
