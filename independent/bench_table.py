@@ -9,7 +9,7 @@ import re
 import statistics
 import sys
 
-ROW = re.compile(r"(.*?) +(\d+) +(\d+)  (check|route) +(\d+) +(\d+) +([\d.]+)$")
+ROW = re.compile(r"(.*?) +(\d+) +(\d+)  (check|route|fill) +(\d+) +(\d+) +([\d.]+)$")
 GROWTH = re.compile(r"(.*?) +(check|route)  library ([\d.]+) times, model ([\d.]+) times$")
 
 

@@ -15,10 +15,11 @@ pub struct Faulty {
     pub name: &'static str,
     /// What it gets wrong.
     pub wrong: &'static str,
-    /// `acsroute` can't show it, as the edit says.
+    /// The gate's answers can't show it, as the edit says.
     pub hidden: bool,
     pub calls: Calls,
-    pub acsroute: fn(&[u8]) -> String,
+    /// What it prints for an item of the gate's corpus.
+    pub gate: fn(&[u8]) -> String,
 }
 
 /// The copy of the model that a crate is.
@@ -30,7 +31,7 @@ macro_rules! faulty {
             wrong: $wrong,
             hidden: $hidden,
             calls: $crate::calls!($copy),
-            acsroute: $copy::acsroute,
+            gate: $copy::gate::answer,
         }
     };
 }
@@ -79,16 +80,16 @@ fn noticed_after(copies: &[Faulty], options: &Options) -> Option<Vec<Option<u64>
     let mut waiting: Vec<usize> = (0..copies.len()).collect();
     let mut differs = false;
     let batches = Batches::new(options.seed);
-    let cases = each_case(batches, options.cases, |number, batch, query| {
-        let library = LIBRARY.answer(batch, query, number);
-        let model = MODEL.answer(batch, query, number);
+    let cases = each_case(batches, options.cases, |number, case| {
+        let library = LIBRARY.answer(case, number);
+        let model = MODEL.answer(case, number);
         if library != model {
-            show(number, batch, query, &library, &model);
+            show(number, case, &library, &model);
             differs = true;
             return false;
         }
         waiting.retain(|&place| {
-            let same = library == copies[place].calls.answer(batch, query, number);
+            let same = library == copies[place].calls.answer(case, number);
             if !same {
                 noticed[place] = Some(number);
             }
@@ -103,11 +104,11 @@ fn noticed_after(copies: &[Faulty], options: &Options) -> Option<Vec<Option<u64>
 /// How many answers to the corpus are others than the model's.
 fn corpus_answers(copies: &[Faulty]) -> Vec<usize> {
     let items = corpus::items();
-    let answers: Vec<String> = items.iter().map(|item| model::acsroute(item)).collect();
+    let answers: Vec<String> = items.iter().map(|item| model::gate::answer(item)).collect();
     let differing = |copy: &Faulty| {
         let pairs = items.iter().zip(&answers);
         pairs
-            .filter(|(item, answer)| (copy.acsroute)(item) != **answer)
+            .filter(|(item, answer)| (copy.gate)(item) != **answer)
             .count()
     };
     copies.iter().map(differing).collect()

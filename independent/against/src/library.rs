@@ -13,6 +13,8 @@ extern "C" {
         hops: *mut u8,
         hops_len: usize,
     ) -> u64;
+
+    fn acs_fill(image: *const u8, image_len: usize, record: *mut u8, record_len: usize) -> u64;
 }
 
 pub fn check(snapshot: &[u8], now: u64) -> u64 {
@@ -33,6 +35,19 @@ pub fn route(snapshot: &[u8], now: u64, origin: u16, header: &[u8], hops: &mut [
             header.len(),
             hops.as_mut_ptr(),
             hops.len(),
+        )
+    }
+}
+
+pub fn fill(image: &[u8], record: &mut [u8]) -> u64 {
+    // The pointers and lengths are those of slices; only `record` is written,
+    // and it doesn't overlap the image.
+    unsafe {
+        acs_fill(
+            image.as_ptr(),
+            image.len(),
+            record.as_mut_ptr(),
+            record.len(),
         )
     }
 }

@@ -3,18 +3,21 @@
 use std::fmt::Write;
 
 use crate::library;
-use cases::batches::{Ask, Batch};
+use cases::batches::{Ask, Batch, Case, Queries};
+use cases::fills::Fill;
 
 /// Bytes before and after the lent part of a buffer that nobody may touch.
 const CANARY: usize = 32;
 
 type Check = fn(&[u8], u64) -> u64;
 type Route = fn(&[u8], u64, u16, &[u8], &mut [u8]) -> u64;
+type Filling = fn(&[u8], &mut [u8]) -> u64;
 
 /// The calls of the library, of the model or of a copy of it.
 pub struct Calls {
     pub check: Check,
     pub route: Route,
+    pub fill: Filling,
 }
 
 /// The calls that a crate or module has.
@@ -24,6 +27,7 @@ macro_rules! calls {
         $crate::seen::Calls {
             check: $from::check,
             route: $from::route,
+            fill: $from::fill,
         }
     };
 }
@@ -31,33 +35,58 @@ macro_rules! calls {
 pub const LIBRARY: Calls = calls!(library);
 pub const MODEL: Calls = calls!(model);
 
-/// What a check and a route gave.
+/// What the calls of a case gave.
 #[derive(PartialEq, Eq)]
 pub struct Seen {
-    pub check: u64,
-    pub route: u64,
+    pub words: Words,
+    /// The lent buffer, hops or record, between its canaries.
     pub buffer: Vec<u8>,
 }
 
+/// The answer words of a case.
+#[derive(Clone, Copy, PartialEq, Eq)]
+pub enum Words {
+    Query { check: u64, route: u64 },
+    Fill { fill: u64 },
+}
+
 impl Calls {
-    /// Makes both calls for a case and keeps all that they gave.
-    pub fn answer(&self, batch: &Batch, ask: &Ask, number: u64) -> Seen {
-        let mut buffer = pattern(ask, number);
+    /// Makes the calls of a case and keeps all that they gave.
+    pub fn answer(&self, case: Case, number: u64) -> Seen {
+        match case {
+            Case::Query(queries, ask) => self.answer_query(queries, ask, number),
+            Case::Fill(fill) => self.answer_fill(fill, number),
+        }
+    }
+
+    fn answer_query(&self, queries: &Queries, ask: &Ask, number: u64) -> Seen {
+        let (snapshot, now) = (&queries.snapshot, queries.now);
+        let mut buffer = pattern(ask.buffer, number);
         let hops = &mut buffer[CANARY..CANARY + ask.buffer];
-        let check = (self.check)(&batch.snapshot, batch.now);
-        let route = (self.route)(&batch.snapshot, batch.now, ask.origin, &ask.header, hops);
+        let check = (self.check)(snapshot, now);
+        let route = (self.route)(snapshot, now, ask.origin, &ask.header, hops);
         Seen {
-            check,
-            route,
+            words: Words::Query { check, route },
+            buffer,
+        }
+    }
+
+    fn answer_fill(&self, case: &Fill, number: u64) -> Seen {
+        let length = case.record.len();
+        let mut buffer = pattern(length, number);
+        let record = &mut buffer[CANARY..CANARY + length];
+        record.copy_from_slice(&case.record);
+        let fill = (self.fill)(&case.image, record);
+        Seen {
+            words: Words::Fill { fill },
             buffer,
         }
     }
 }
 
 /// A buffer with its canaries, filled so that no byte is the same by chance.
-fn pattern(ask: &Ask, number: u64) -> Vec<u8> {
-    let length = ask.buffer + 2 * CANARY;
-    (0..length)
+fn pattern(lent: usize, number: u64) -> Vec<u8> {
+    (0..lent + 2 * CANARY)
         .map(|place| (place as u64 * 29 + number * 101 + 83) as u8)
         .collect()
 }
@@ -67,16 +96,16 @@ fn pattern(ask: &Ask, number: u64) -> Vec<u8> {
 pub fn each_case(
     batches: impl Iterator<Item = Batch>,
     most: u64,
-    mut each: impl FnMut(u64, &Batch, &Ask) -> bool,
+    mut each: impl FnMut(u64, Case) -> bool,
 ) -> u64 {
     let mut number = 0;
     for batch in batches {
-        for ask in &batch.asks {
+        for case in batch.cases() {
             if number == most {
                 return number;
             }
             number += 1;
-            if !each(number, &batch, ask) {
+            if !each(number, case) {
                 return number;
             }
         }
@@ -85,33 +114,49 @@ pub fn each_case(
 }
 
 /// Prints a case in which library and model differ.
-pub fn show(number: u64, batch: &Batch, ask: &Ask, library: &Seen, model: &Seen) {
+pub fn show(number: u64, case: Case, library: &Seen, model: &Seen) {
     println!("case {number}: difference");
-    println!(
-        "  now {} origin {} buffer {} bytes",
-        batch.now, ask.origin, ask.buffer
-    );
-    println!("  header   {}", hexadecimal(&ask.header));
+    show_asked(case);
     for (name, seen) in [("library", library), ("model  ", model)] {
-        let hops = &seen.buffer[CANARY..CANARY + ask.buffer.min(80)];
-        println!(
-            "  {name}  check {:016x} route {:016x}",
-            seen.check, seen.route
-        );
-        println!("  {name}  hops {}", hexadecimal(hops));
+        show_answer(name, seen);
     }
-    let place = library
-        .buffer
-        .iter()
-        .zip(&model.buffer)
-        .position(|(a, b)| a != b);
-    if let Some(place) = place {
+    let mut pairs = library.buffer.iter().zip(&model.buffer);
+    if let Some(place) = pairs.position(|(a, b)| a != b) {
         println!(
             "  first different byte of the buffer: {}",
             place as i64 - CANARY as i64
         );
     }
-    println!("  snapshot {}", hexadecimal(&batch.snapshot));
+}
+
+fn show_asked(case: Case) {
+    match case {
+        Case::Query(queries, ask) => {
+            let (now, origin, buffer) = (queries.now, ask.origin, ask.buffer);
+            println!("  now {now} origin {origin} buffer {buffer} bytes");
+            println!("  header   {}", hexadecimal(&ask.header));
+            println!("  snapshot {}", hexadecimal(&queries.snapshot));
+        }
+        Case::Fill(fill) => {
+            println!("  record   {}", hexadecimal(&fill.record));
+            println!("  image    {}", hexadecimal(&fill.image));
+        }
+    }
+}
+
+fn show_answer(name: &str, seen: &Seen) {
+    let lent = &seen.buffer[CANARY..seen.buffer.len() - CANARY];
+    match seen.words {
+        Words::Query { check, route } => {
+            println!("  {name}  check {check:016x} route {route:016x}");
+            let hops = &lent[..lent.len().min(80)];
+            println!("  {name}  hops {}", hexadecimal(hops));
+        }
+        Words::Fill { fill } => {
+            println!("  {name}  fill {fill:016x}");
+            println!("  {name}  record {}", hexadecimal(lent));
+        }
+    }
 }
 
 fn hexadecimal(bytes: &[u8]) -> String {

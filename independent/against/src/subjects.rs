@@ -1,9 +1,10 @@
-//! What is measured: fabrics, and one write through each.
+//! What is measured: fabrics and one write through each, and images.
 
 use std::hint::black_box;
 
 use crate::library;
 use cases::fabric::{fabric_f, request, with_bit, Fabric, WRITE};
+use cases::images::{bridge, longest_list, Image};
 use cases::shapes::{by_kind, chain, comb, shuffled, slots, wide, wide_full};
 use model::{acs, HEAD, RECORD, ROOM};
 
@@ -141,6 +142,46 @@ impl Subject {
         let snapshot = black_box(&self.snapshot);
         let word = model::route(snapshot, self.now, self.origin, &self.header, &mut hops);
         black_box(hops);
+        word
+    }
+}
+
+/// An image, and a record to fill from it.
+pub struct ImageSubject {
+    pub name: &'static str,
+    image: Image,
+    record: [u8; RECORD],
+}
+
+/// Both images: one as a bridge has it, and the longest list there is.
+pub fn images() -> Vec<ImageSubject> {
+    let few = bridge().list(&[0x100, 0x140, 0x160], 0x200);
+    vec![
+        ImageSubject::new("image, ACS is fourth", few),
+        ImageSubject::new("image, 960 headers", longest_list()),
+    ]
+}
+
+impl ImageSubject {
+    fn new(name: &'static str, image: Image) -> ImageSubject {
+        ImageSubject {
+            name,
+            image,
+            record: [0xA5; RECORD],
+        }
+    }
+
+    pub fn library_fill(&self) -> u64 {
+        let mut record = self.record;
+        let word = library::fill(black_box(&self.image.bytes), &mut record);
+        black_box(record);
+        word
+    }
+
+    pub fn model_fill(&self) -> u64 {
+        let mut record = self.record;
+        let word = model::fill(black_box(&self.image.bytes), &mut record);
+        black_box(record);
         word
     }
 }

@@ -14,7 +14,7 @@ fn independent() -> &'static Path {
 fn every_edit_applies() {
     let model = read_files(&independent().join("model/src")).unwrap();
     let texts = read_files(&independent().join("faults")).unwrap();
-    assert!(texts.len() >= 204, "{} edits", texts.len());
+    assert!(texts.len() >= 324, "{} edits", texts.len());
     for (path, text) in &texts {
         let copy = Edit::read(text).and_then(|edit| edited(&model, &edit));
         assert!(copy.is_ok_and(|copy| copy != model), "{}", path.display());

@@ -2,6 +2,7 @@
 
 use crate::damage::{damaged, inside, random_time};
 use crate::fabric::{fabric_f, with_bit, Fabric};
+use crate::fills::{Fill, Stock};
 use crate::queries::random_query;
 use crate::random::Random;
 use crate::shapes::{chain, random_fabric, random_full, roots};
@@ -10,8 +11,33 @@ use model::Word;
 use model::ROOM;
 use model::{check, route};
 
+/// Cases that have something in common.
+pub enum Batch {
+    Queries(Queries),
+    Fills(Vec<Fill>),
+}
+
+/// What is asked: a check and a route of a snapshot, or a fill.
+#[derive(Clone, Copy)]
+pub enum Case<'a> {
+    Query(&'a Queries, &'a Ask),
+    Fill(&'a Fill),
+}
+
+impl Batch {
+    pub fn cases(&self) -> Vec<Case<'_>> {
+        match self {
+            Batch::Queries(queries) => {
+                let asks = queries.asks.iter();
+                asks.map(|ask| Case::Query(queries, ask)).collect()
+            }
+            Batch::Fills(fills) => fills.iter().map(Case::Fill).collect(),
+        }
+    }
+}
+
 /// One snapshot at one time, and what is asked of it.
-pub struct Batch {
+pub struct Queries {
     pub snapshot: Vec<u8>,
     pub now: u64,
     pub asks: Vec<Ask>,
@@ -24,12 +50,19 @@ pub struct Ask {
     pub buffer: usize,
 }
 
-/// Fabrics with dozens of queries each, followed by damaged variants of them.
+/// Fabrics with dozens of queries each, followed by damaged variants of them;
+/// between them images, so that every fourth case is a fill.
 pub struct Batches {
     random: Random,
     fabric: Fabric,
     variants: usize,
+    /// Queries so far for which there are no fills yet.
+    unmatched: usize,
 }
+
+/// Fills in a batch, and how many queries there are for each fill.
+const FILLS: usize = 24;
+const QUERIES_PER_FILL: usize = 3;
 
 impl Batches {
     pub fn new(seed: u64) -> Batches {
@@ -37,6 +70,42 @@ impl Batches {
             random: Random::new(seed),
             fabric: fabric_f(2, 0),
             variants: 0,
+            unmatched: 0,
+        }
+    }
+
+    fn fills(&mut self) -> Vec<Fill> {
+        let stock = Stock::new(&mut self.random);
+        let fills = (0..FILLS).map(|_| stock.random_fill(&mut self.random));
+        fills.collect()
+    }
+
+    /// A new fabric, or a damaged variant of the one before.
+    fn queries(&mut self) -> Queries {
+        if self.variants == 0 {
+            self.fabric = some_fabric(&mut self.random);
+            let large = self.fabric.records.len() > 40;
+            self.variants = if large { 2 } else { 4 + self.random.index(8) };
+            let snapshot = self.fabric.bytes();
+            let now = inside(&mut self.random, &self.fabric);
+            let count = 16 + self.random.below(16);
+            let asks = self.asks(&snapshot, now, count);
+            return Queries {
+                snapshot,
+                now,
+                asks,
+            };
+        }
+        self.variants -= 1;
+        let snapshot = damaged(&mut self.random, &self.fabric);
+        let now = random_time(&mut self.random, &self.fabric);
+        // A snapshot that is still accepted deserves more than one query.
+        let count = if check(&snapshot, now) == 0 { 6 } else { 1 };
+        let asks = self.asks(&snapshot, now, count);
+        Queries {
+            snapshot,
+            now,
+            asks,
         }
     }
 
@@ -61,31 +130,13 @@ impl Iterator for Batches {
     type Item = Batch;
 
     fn next(&mut self) -> Option<Batch> {
-        if self.variants == 0 {
-            self.fabric = some_fabric(&mut self.random);
-            let large = self.fabric.records.len() > 40;
-            self.variants = if large { 2 } else { 4 + self.random.index(8) };
-            let snapshot = self.fabric.bytes();
-            let now = inside(&mut self.random, &self.fabric);
-            let count = 16 + self.random.below(16);
-            let asks = self.asks(&snapshot, now, count);
-            return Some(Batch {
-                snapshot,
-                now,
-                asks,
-            });
+        if self.unmatched >= QUERIES_PER_FILL * FILLS {
+            self.unmatched -= QUERIES_PER_FILL * FILLS;
+            return Some(Batch::Fills(self.fills()));
         }
-        self.variants -= 1;
-        let snapshot = damaged(&mut self.random, &self.fabric);
-        let now = random_time(&mut self.random, &self.fabric);
-        // A snapshot that is still accepted deserves more than one query.
-        let count = if check(&snapshot, now) == 0 { 6 } else { 1 };
-        let asks = self.asks(&snapshot, now, count);
-        Some(Batch {
-            snapshot,
-            now,
-            asks,
-        })
+        let queries = self.queries();
+        self.unmatched += queries.asks.len();
+        Some(Batch::Queries(queries))
     }
 }
 

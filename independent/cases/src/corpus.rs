@@ -1,15 +1,20 @@
-//! A fixed row of `acsroute` inputs, kept with the answers to them.
+//! A fixed row of items for the gate, kept with the answers to them: `acsroute`
+//! inputs here, fills in `fills`.
 
-use crate::batches::{Ask, Batch};
+mod fills;
+
+use crate::batches::{Ask, Batch, Queries};
 use crate::damage::{break_rule, damaged, inside, random_time, BREAK_COUNT};
 use crate::fabric::{completion, fabric_f, request, with_bit, with_capability};
 use crate::fabric::{Fabric, Record, NO_PARENT};
 use crate::fabric::{COMPLETION, DATA_COMPLETION, LONG_READ, LONG_WRITE, READ, WRITE};
+use crate::fills::Fill;
 use crate::queries::random_query;
 use crate::random::Random;
 use crate::shapes::{chain, random_fabric, roots, wide_full, with_endpoints};
-use crate::stream::input_bytes;
+use crate::stream::{input_bytes, query_item};
 use model::acs;
+use model::gate::Item;
 use model::Input;
 use model::ROOM;
 
@@ -21,8 +26,14 @@ const PEER: u64 = 0x8010_0000;
 /// Random fabrics of 2 to 6 records, with some queries and damages each.
 const RANDOM_FABRICS: usize = 350;
 
-/// The inputs, the same in every run.
+/// The items, the same in every run.
 pub fn items() -> Vec<Vec<u8>> {
+    let queries = inputs().into_iter().map(|input| query_item(&input));
+    queries.chain(fills::items()).collect()
+}
+
+/// The inputs of `acsroute`.
+fn inputs() -> Vec<Vec<u8>> {
     let mut corpus = Corpus { items: Vec::new() };
     corpus.fabric_f_cases();
     corpus.framing();
@@ -40,11 +51,24 @@ pub fn items() -> Vec<Vec<u8>> {
     corpus.items
 }
 
-/// The inputs that are framed right, as cases to compare by.
+/// The items that are made right, as cases to compare by.
 pub fn batches() -> Vec<Batch> {
     let items = items();
-    let inputs = items.iter().filter_map(|item| Input::read(item));
-    let batches = inputs.map(|input| Batch {
+    items.iter().filter_map(|item| batch(item)).collect()
+}
+
+fn batch(item: &[u8]) -> Option<Batch> {
+    match Item::read(item)? {
+        Item::Query(input) => Input::read(input).map(query_batch),
+        Item::Fill { image, record } => Some(Batch::Fills(vec![Fill {
+            image: image.to_vec(),
+            record: record.to_vec(),
+        }])),
+    }
+}
+
+fn query_batch(input: Input) -> Batch {
+    Batch::Queries(Queries {
         snapshot: input.snapshot.to_vec(),
         now: input.now,
         asks: vec![Ask {
@@ -52,8 +76,7 @@ pub fn batches() -> Vec<Batch> {
             header: input.header.to_vec(),
             buffer: ROOM,
         }],
-    });
-    batches.collect()
+    })
 }
 
 struct Corpus {

@@ -1,4 +1,5 @@
-//! `acsroute` inputs, and the stream format of many of them.
+//! `acsroute` inputs, items of the gate's corpus, and the stream format of many
+//! of them.
 
 /// The bytes of an input. The snapshot has at most 65,535 bytes, the header 255.
 pub fn input_bytes(snapshot: &[u8], now: u64, origin: u16, header: &[u8]) -> Vec<u8> {
@@ -10,6 +11,25 @@ pub fn input_bytes(snapshot: &[u8], now: u64, origin: u16, header: &[u8]) -> Vec
     input.push(header.len() as u8);
     input.extend_from_slice(header);
     input
+}
+
+/// The call that an item's first byte names.
+pub const QUERY: u8 = 0;
+pub const FILL: u8 = 2;
+
+/// The item of an `acsroute` input.
+pub fn query_item(input: &[u8]) -> Vec<u8> {
+    [&[QUERY], input].concat()
+}
+
+/// The item of a fill.
+pub fn fill_item(image: &[u8], record: &[u8]) -> Vec<u8> {
+    let mut item = vec![FILL];
+    for slice in [image, record] {
+        item.extend_from_slice(&(slice.len() as u32).to_le_bytes());
+        item.extend_from_slice(slice);
+    }
+    item
 }
 
 /// The items of a stream: each a 4-byte length and that many bytes. An item

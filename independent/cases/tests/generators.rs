@@ -3,7 +3,7 @@
 
 use std::collections::BTreeMap;
 
-use cases::batches::Batches;
+use cases::batches::{Batch, Batches};
 use cases::fabric::{Fabric, Record};
 use cases::queries::random_query;
 use cases::random::Random;
@@ -12,7 +12,7 @@ use cases::shapes::{shuffled, slots, wide, wide_full, with_endpoints};
 use model::acs;
 use model::Word;
 use model::ROOM;
-use model::{check, route};
+use model::{check, fill, route};
 
 #[test]
 fn random_fabrics_are_accepted() {
@@ -114,6 +114,9 @@ fn deepest_chain_makes_257_hops() {
 fn cases_have_every_outcome() {
     let mut seen: BTreeMap<(u8, u8, bool), usize> = BTreeMap::new();
     for batch in Batches::new(1).take(3000) {
+        let Batch::Queries(batch) = batch else {
+            continue;
+        };
         for ask in batch.asks {
             let mut buffer = vec![0; ask.buffer];
             let word = Word(route(
@@ -144,6 +147,37 @@ fn cases_have_every_outcome() {
             );
         }
     }
+}
+
+#[test]
+fn fills_have_every_answer() {
+    let (mut cases, mut fills) = (0, 0);
+    let mut seen: BTreeMap<(u8, u8, u16), usize> = BTreeMap::new();
+    for batch in Batches::new(1).take(6000) {
+        cases += batch.cases().len();
+        let Batch::Fills(list) = batch else {
+            continue;
+        };
+        fills += list.len();
+        for mut case in list {
+            let word = Word(fill(&case.image, &mut case.record));
+            let length = word.part().1;
+            *seen
+                .entry((word.byte(0), word.byte(1), length))
+                .or_default() += 1;
+        }
+    }
+    println!("{fills} of {cases}: {seen:?}");
+    assert!(cases / 5 < fills && fills < cases / 3);
+    // Refusals 8 and 9, no ACS, and ACS of every length that there is.
+    let lengths = (8..=40).step_by(4).map(|length| (0, 0, length));
+    for answer in [(6, 8, 0), (6, 9, 0), (0, 0, 0)].into_iter().chain(lengths) {
+        let count = seen.get(&answer).copied().unwrap_or(0);
+        assert!(count > fills / 100, "{answer:?}: {count}");
+    }
+    // Most go far into the rules.
+    let refused = seen[&(6, 8, 0)] + seen[&(6, 9, 0)];
+    assert!(5 * refused < 2 * fills, "{refused} of {fills}");
 }
 
 /// The most ports on the way from any record up to the root complex.

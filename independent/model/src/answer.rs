@@ -74,6 +74,11 @@ impl Outcome {
     }
 }
 
+/// The answer word for a part of an image, of length 0 where there is none.
+pub fn part_word(offset: u16, length: u16) -> u64 {
+    u64::from(offset) << 16 | u64::from(length) << 32
+}
+
 #[derive(Clone, Copy, PartialEq, Eq, Debug)]
 pub enum Action {
     Up = 1,
@@ -114,6 +119,11 @@ impl Word {
 
     pub fn hops(self) -> usize {
         usize::from((self.0 >> 32) as u16)
+    }
+
+    /// The offset and the length of the ACS structure that `acs_fill` found.
+    pub fn part(self) -> (u16, u16) {
+        ((self.0 >> 16) as u16, (self.0 >> 32) as u16)
     }
 
     /// The outcome as `acsroute` prints it, up to the hops.

@@ -4,7 +4,7 @@
 use std::hint::black_box;
 use std::time::Instant;
 
-use against::subjects::{subjects, Subject};
+use against::subjects::{images, subjects, ImageSubject, Subject};
 use model::Word;
 
 const ROUNDS: usize = 60;
@@ -32,6 +32,7 @@ fn main() {
         "fabric", "records", "hops", "call", "library ns", "model ns", "ratio"
     );
     let rows: Vec<Row> = subjects.iter().map(measure).collect();
+    images().iter().for_each(measure_fill);
     println!();
     println!("growth from 64 to 256 records (4 times as many):");
     for name in ["wide switch", "deepest chain"] {
@@ -42,23 +43,30 @@ fn main() {
 fn measure(subject: &Subject) -> Row<'_> {
     let check = time(|| subject.library_check(), || subject.model_check());
     let route = time(|| subject.library_route(), || subject.model_route());
+    let hops = Word(subject.model_route()).hops();
     for (call, times) in [("check", check), ("route", route)] {
-        println!(
-            "{:<22} {:>7} {:>5}  {:<5} {:>12.0} {:>12.0} {:>7.2}",
-            subject.name,
-            subject.records(),
-            Word(subject.model_route()).hops(),
-            call,
-            times.library,
-            times.model,
-            times.library / times.model
-        );
+        print_row(subject.name, subject.records(), hops, call, times);
     }
     Row {
         subject,
         check,
         route,
     }
+}
+
+/// A fill is of one record and has no hops.
+fn measure_fill(subject: &ImageSubject) {
+    let fill = time(|| subject.library_fill(), || subject.model_fill());
+    print_row(subject.name, 1, 0, "fill", fill);
+}
+
+fn print_row(name: &str, records: usize, hops: usize, call: &str, times: Times) {
+    println!(
+        "{name:<22} {records:>7} {hops:>5}  {call:<5} {:>12.0} {:>12.0} {:>7.2}",
+        times.library,
+        times.model,
+        times.library / times.model
+    );
 }
 
 fn growth(rows: &[Row], name: &str) {

@@ -1,13 +1,13 @@
 //! Compares the proved library with the model: `compare [--seed S] [--cases N]`
-//! compares both words and every byte of the buffer, on the corpus first and
-//! then on random cases.
+//! compares the words of all calls and every byte of the buffers, on the corpus
+//! first and then on random cases.
 
 use std::collections::BTreeMap;
 use std::process::ExitCode;
 
 use against::options::{self, Options};
-use against::seen::{each_case, show, Seen, LIBRARY, MODEL};
-use cases::batches::{Ask, Batch, Batches};
+use against::seen::{each_case, show, Words, LIBRARY, MODEL};
+use cases::batches::{Ask, Batches, Case, Queries};
 use cases::corpus;
 use model::{Word, COMPLEX, HEAD, RECORD};
 
@@ -33,16 +33,16 @@ fn compare(options: &Options) -> bool {
     let corpus = corpus::batches();
     println!("{} cases of the corpus, then random ones", corpus.len());
     let batches = corpus.into_iter().chain(Batches::new(options.seed));
-    each_case(batches, options.cases, |number, batch, ask| {
-        let library = LIBRARY.answer(batch, ask, number);
-        let model = MODEL.answer(batch, ask, number);
+    each_case(batches, options.cases, |number, case| {
+        let library = LIBRARY.answer(case, number);
+        let model = MODEL.answer(case, number);
         if library != model {
             differences += 1;
             if differences <= SHOWN {
-                show(number, batch, ask, &library, &model);
+                show(number, case, &library, &model);
             }
         }
-        statistics.count(batch, ask, &model);
+        statistics.count(case, model.words);
         if number % PROGRESS == 0 {
             println!("{number} cases, differences so far: {differences}");
         }
@@ -58,34 +58,43 @@ fn compare(options: &Options) -> bool {
 struct Statistics {
     checks: BTreeMap<String, u64>,
     routes: BTreeMap<String, u64>,
+    fills: BTreeMap<String, u64>,
     hops: BTreeMap<usize, u64>,
 }
 
 impl Statistics {
-    fn count(&mut self, batch: &Batch, ask: &Ask, seen: &Seen) {
-        let check = Word(seen.check);
-        let accepted = match check.refused() {
-            true => format!("refusal {}", check.refusal_number()),
-            false => "accepted".to_string(),
-        };
-        *self.checks.entry(accepted).or_default() += 1;
-        *self
-            .routes
-            .entry(route_name(batch, ask, Word(seen.route)))
-            .or_default() += 1;
-        if !Word(seen.route).refused() {
-            *self.hops.entry(Word(seen.route).hops()).or_default() += 1;
+    fn count(&mut self, case: Case, words: Words) {
+        match (case, words) {
+            (Case::Query(queries, ask), Words::Query { check, route }) => {
+                self.count_query(queries, ask, Word(check), Word(route));
+            }
+            (_, Words::Fill { fill }) => {
+                *self.fills.entry(fill_name(Word(fill))).or_default() += 1;
+            }
+            _ => unreachable!("a fill has no word of a route"),
+        }
+    }
+
+    fn count_query(&mut self, queries: &Queries, ask: &Ask, check: Word, route: Word) {
+        *self.checks.entry(check_name(check)).or_default() += 1;
+        let name = route_name(queries, ask, route);
+        *self.routes.entry(name).or_default() += 1;
+        if !route.refused() {
+            *self.hops.entry(route.hops()).or_default() += 1;
         }
     }
 
     fn print(&self) {
-        println!("check:");
-        for (name, count) in &self.checks {
-            println!("{count:9}  {name}");
-        }
-        println!("route:");
-        for (name, count) in &self.routes {
-            println!("{count:9}  {name}");
+        let calls = [
+            ("check", &self.checks),
+            ("route", &self.routes),
+            ("fill", &self.fills),
+        ];
+        for (call, answers) in calls {
+            println!("{call}:");
+            for (name, count) in answers {
+                println!("{count:9}  {name}");
+            }
         }
         if let (Some(fewest), Some(most)) = (self.hops.keys().next(), self.hops.keys().last()) {
             println!(
@@ -96,7 +105,24 @@ impl Statistics {
     }
 }
 
-fn route_name(batch: &Batch, ask: &Ask, word: Word) -> String {
+fn check_name(word: Word) -> String {
+    match word.refused() {
+        true => format!("refusal {}", word.refusal_number()),
+        false => "accepted".to_string(),
+    }
+}
+
+fn fill_name(word: Word) -> String {
+    if word.refused() {
+        return format!("refusal {}", word.refusal_number());
+    }
+    match word.part() {
+        (_, 0) => "no ACS".to_string(),
+        (_, length) => format!("ACS of {length:2} bytes"),
+    }
+}
+
+fn route_name(queries: &Queries, ask: &Ask, word: Word) -> String {
     if word.refused() {
         return format!("refusal {}", word.refusal_number());
     }
@@ -115,13 +141,13 @@ fn route_name(batch: &Batch, ask: &Ask, word: Word) -> String {
         1 => "delivered checked".to_string(),
         2 => "host".to_string(),
         3 if word.node() == COMPLEX => "unclaimed at the complex".to_string(),
-        3 => format!("unclaimed at kind {}", kind_of(batch, word.node())),
+        3 => format!("unclaimed at kind {}", kind_of(queries, word.node())),
         4 => "undefined".to_string(),
         _ => format!("violation {}", word.letter()),
     };
     format!("{tlp} of {from}: {end}")
 }
 
-fn kind_of(batch: &Batch, node: u16) -> u8 {
-    batch.snapshot[HEAD + RECORD * usize::from(node)]
+fn kind_of(queries: &Queries, node: u16) -> u8 {
+    queries.snapshot[HEAD + RECORD * usize::from(node)]
 }

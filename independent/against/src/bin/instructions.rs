@@ -3,12 +3,13 @@
 //!
 //! `instructions` runs itself under valgrind for each row, twice with different
 //! numbers of calls; the difference is what the further calls took.
-//! `instructions ROW CALLS check|route library|model` makes so many calls of one.
+//! `instructions ROW CALLS check|route|fill library|model` makes so many calls of
+//! one; the rows of fill count for themselves.
 
 use std::hint::black_box;
 use std::process::{Command, ExitCode};
 
-use against::subjects::{subjects, Subject};
+use against::subjects::{images, subjects, ImageSubject, Subject};
 use model::Word;
 
 /// Calls in the shorter run and in the longer one.
@@ -20,7 +21,7 @@ fn main() -> ExitCode {
     let result = match &arguments[..] {
         [] => count_all(),
         [row, calls, call, whose] => call_often(row, calls, call, whose),
-        _ => Err("usage: instructions [ROW CALLS check|route library|model]".to_string()),
+        _ => Err("usage: instructions [ROW CALLS check|route|fill library|model]".to_string()),
     };
     match result {
         Ok(()) => ExitCode::SUCCESS,
@@ -32,17 +33,21 @@ fn main() -> ExitCode {
 }
 
 fn call_often(row: &str, calls: &str, call: &str, whose: &str) -> Result<(), String> {
-    let subjects = subjects();
-    let subject = row.parse().ok().and_then(|row: usize| subjects.get(row));
-    let subject = subject.ok_or(format!("no row {row}"))?;
+    let row: usize = row.parse().map_err(|_| format!("no number: {row}"))?;
     let calls: u64 = calls.parse().map_err(|_| format!("no number: {calls}"))?;
-    let call: fn(&Subject) -> u64 = match (call, whose) {
-        ("check", "library") => Subject::library_check,
-        ("check", "model") => Subject::model_check,
-        ("route", "library") => Subject::library_route,
-        ("route", "model") => Subject::model_route,
-        _ => return Err(format!("no call {call} of {whose}")),
-    };
+    match (call, whose) {
+        ("check", "library") => repeat(subjects(), row, calls, Subject::library_check),
+        ("check", "model") => repeat(subjects(), row, calls, Subject::model_check),
+        ("route", "library") => repeat(subjects(), row, calls, Subject::library_route),
+        ("route", "model") => repeat(subjects(), row, calls, Subject::model_route),
+        ("fill", "library") => repeat(images(), row, calls, ImageSubject::library_fill),
+        ("fill", "model") => repeat(images(), row, calls, ImageSubject::model_fill),
+        _ => Err(format!("no call {call} of {whose}")),
+    }
+}
+
+fn repeat<T>(rows: Vec<T>, row: usize, calls: u64, call: fn(&T) -> u64) -> Result<(), String> {
+    let subject = rows.get(row).ok_or(format!("no row {row}"))?;
     for _ in 0..calls {
         black_box(call(subject));
     }
@@ -55,18 +60,31 @@ fn count_all() -> Result<(), String> {
         "fabric", "records", "hops", "call", "library", "model", "ratio"
     );
     for (row, subject) in subjects().iter().enumerate() {
+        let hops = Word(subject.model_route()).hops();
         for call in ["check", "route"] {
-            let library = count(row, call, "library")?;
-            let model = count(row, call, "model")?;
-            println!(
-                "{:<22} {:>7} {:>5}  {call:<5} {library:>12} {model:>12} {:>7.2}",
-                subject.name,
-                subject.records(),
-                Word(subject.model_route()).hops(),
-                library as f64 / model as f64
-            );
+            print_row(row, subject.name, subject.records(), hops, call)?;
         }
     }
+    // A fill is of one record and has no hops.
+    for (row, subject) in images().iter().enumerate() {
+        print_row(row, subject.name, 1, 0, "fill")?;
+    }
+    Ok(())
+}
+
+fn print_row(
+    row: usize,
+    name: &str,
+    records: usize,
+    hops: usize,
+    call: &str,
+) -> Result<(), String> {
+    let library = count(row, call, "library")?;
+    let model = count(row, call, "model")?;
+    println!(
+        "{name:<22} {records:>7} {hops:>5}  {call:<5} {library:>12} {model:>12} {:>7.2}",
+        library as f64 / model as f64
+    );
     Ok(())
 }
 

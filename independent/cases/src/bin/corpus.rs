@@ -7,7 +7,7 @@ use std::process::ExitCode;
 
 use cases::corpus::items;
 use cases::stream::push_item;
-use model::acsroute;
+use model::gate;
 
 fn main() -> ExitCode {
     let arguments: Vec<String> = std::env::args().skip(1).collect();
@@ -30,7 +30,7 @@ fn write(folder: &Path) -> io::Result<()> {
     let mut answers = String::new();
     for item in &items {
         push_item(&mut stream, item);
-        answers.push_str(&acsroute(item));
+        answers.push_str(&gate::answer(item));
     }
     fs::create_dir_all(folder)?;
     fs::write(folder.join("stdin"), &stream)?;

@@ -1,11 +1,11 @@
-//! Answers as `acsroute` does: one input from standard input, or with
-//! `--stream` all inputs of a stream.
+//! Answers one input from standard input as `acsroute` does, or with `--stream`
+//! all items of a stream.
 
 use std::io::{self, Read, Write};
 use std::process::ExitCode;
 
 use cases::stream::items;
-use model::acsroute;
+use model::{acsroute, gate};
 
 fn main() -> ExitCode {
     let stream = match std::env::args().nth(1).as_deref() {
@@ -35,7 +35,7 @@ fn answer(stream: bool) -> io::Result<()> {
     }
     for item in items(&input) {
         let item = item.map_err(|()| io::Error::other("the last item is cut off"))?;
-        out.write_all(acsroute(item).as_bytes())?;
+        out.write_all(gate::answer(item).as_bytes())?;
     }
     out.flush()
 }

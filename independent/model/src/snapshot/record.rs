@@ -136,20 +136,24 @@ impl<'a> Node<'a> {
         u16::from(number) < self.vector_size() && byte >> (number % 8) & 1 == 1
     }
 
-    /// Of the size field "00h means 256 bits; 01h to FFh mean themselves", in a
-    /// Capability with E (document 02, 1/13). Without E it stays as it is.
-    // No answer shows the latter: the table asks for a bit where Control has E,
-    // and Control has it only where Capability does.
     fn vector_size(&self) -> u16 {
-        match self.capability >> 8 {
-            0x00 if self.capability & acs::E != 0 => 256,
-            field => field,
-        }
+        vector_size(self.capability)
     }
 
     /// Whether a bus lies in secondary..subordinate.
     pub fn bus_in_range(&self, bus: u8) -> bool {
         self.secondary <= bus && bus <= self.subordinate
+    }
+}
+
+/// Of the size field "00h means 256 bits; 01h to FFh mean themselves", in a
+/// Capability with E (document 02, 1/13). Without E it stays as it is.
+// No answer shows the latter: the table asks for a bit where Control has E, and
+// Control has it only where Capability does; an image's vector is read with E.
+pub fn vector_size(capability: u16) -> u16 {
+    match capability >> 8 {
+        0x00 if capability & acs::E != 0 => 256,
+        field => field,
     }
 }
 
