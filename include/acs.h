@@ -1,7 +1,8 @@
 /*
  * acs.h: how PCI Express access control (ACS) routes a transaction.
  *
- * Two calls answer from a snapshot of one hierarchy, held in memory as bytes.
+ * Two calls answer from a snapshot of one hierarchy, held in memory as bytes; a
+ * third fills a record of such a snapshot from a bridge's configuration space.
  * They allocate nothing, keep nothing between calls and may run in any number
  * of threads at once. The rest of this file is names for numbers, readers for
  * answers, words for people and writers for TLP headers, all inline.
@@ -29,9 +30,9 @@ extern "C" {
 /* ---- Version ------------------------------------------------------------ */
 
 #define ACS_VERSION_MAJOR 0
-#define ACS_VERSION_MINOR 3
+#define ACS_VERSION_MINOR 4
 #define ACS_VERSION_PATCH 0
-#define ACS_VERSION "0.3.0"
+#define ACS_VERSION "0.4.0"
 
 /* ---- Sizes and numbers -------------------------------------------------- */
 
@@ -51,7 +52,8 @@ enum {
     ACS_SNAPSHOT_HEAD = 24,           /* bytes in front of the first record */
     ACS_SNAPSHOT_RECORD = 144,        /* bytes of one record */
     ACS_SNAPSHOT_RECORDS_MOST = 256,  /* records of the largest snapshot */
-    ACS_SNAPSHOT_MOST = 36888         /* bytes of the largest snapshot */
+    ACS_SNAPSHOT_MOST = 36888,        /* bytes of the largest snapshot */
+    ACS_IMAGE_SIZE = 4096             /* bytes of a configuration space image */
 };
 
 /* ---- Numbers of an answer ----------------------------------------------- */
@@ -69,7 +71,7 @@ enum acs_kind {
 };
 
 /* Refusal number: byte 1 of the answer word of a refusal. Tested in the order
-   short or mark 1, then 2, the rest of 1, then 3 to 7. */
+   short or mark 1, then 2, the rest of 1, then 3 to 7; of acs_fill 8, then 9. */
 enum acs_refusal {
     ACS_REFUSAL_NONE = 0,     /* not refused */
     ACS_REFUSAL_FILE = 1,     /* under 24 bytes, wrong mark, bad flags, count, times or length */
@@ -78,7 +80,9 @@ enum acs_refusal {
     ACS_REFUSAL_RECORD = 4,   /* a record is not acceptable; the node is the lowest such index */
     ACS_REFUSAL_ORIGIN = 5,   /* the origin is neither ACS_HOST nor an endpoint's index */
     ACS_REFUSAL_HEADER = 6,   /* the TLP header is bad */
-    ACS_REFUSAL_ROOM = 7      /* the hops do not fit in the buffer */
+    ACS_REFUSAL_ROOM = 7,     /* the hops do not fit in the buffer */
+    ACS_REFUSAL_LENGTH = 8,   /* the image has not 4,096 bytes, or the record not 144 */
+    ACS_REFUSAL_CAPABILITIES = 9  /* the list of extended capabilities, or its ACS structure, is bad */
 };
 
 /* Violation letter: byte 1 of the answer word of a violation.
@@ -151,7 +155,7 @@ enum acs_address_type {
     ACS_AT_RESERVED = 3
 };
 
-/* ---- The two calls ------------------------------------------------------ */
+/* ---- The calls ---------------------------------------------------------- */
 
 /*
  * Is this snapshot whole, in order and in force?
@@ -178,6 +182,20 @@ uint64_t acs_check(const uint8_t *snapshot, size_t snapshot_len, uint64_t now);
 uint64_t acs_route(const uint8_t *snapshot, size_t snapshot_len, uint64_t now,
                    uint16_t origin, const uint8_t *header, size_t header_len,
                    uint8_t *hops, size_t hops_len);
+
+/*
+ * What do a bridge's own registers say? Fills bus numbers, ranges 0 and 1, ACS
+ * Capability, Control and vector of one record of a snapshot from the bridge's
+ * configuration space, and leaves its other bytes. Answers where the ACS
+ * structure stands in the image (acs_fill_offset, acs_fill_length; both 0 where
+ * the list of extended capabilities has none). A refusal, 8 or 9, leaves every
+ * byte of the record as it was. 0 is a fill without ACS, not a fine record:
+ * only acs_check says whether the record is acceptable.
+ *
+ *   image, image_len    the configuration space, 4,096 bytes, only read
+ *   record, record_len  the record, 144 bytes; it does not overlap the image
+ */
+uint64_t acs_fill(const uint8_t *image, size_t image_len, uint8_t *record, size_t record_len);
 
 /* ---- Reading what a call answered --------------------------------------- */
 
@@ -230,6 +248,19 @@ static inline int acs_answer_abort(uint64_t answer)
     return (int)(answer >> 48 & 0xFFu);
 }
 
+/* Bytes 2-3: where in the image the ACS structure starts; 0 where there is none.
+   Of the answer of acs_fill only, and not of a refusal. */
+static inline unsigned acs_fill_offset(uint64_t answer)
+{
+    return (unsigned)(answer >> 16 & 0xFFFFu);
+}
+
+/* Bytes 4-5: how many bytes it has, its vector with it; 0 where there is none. */
+static inline unsigned acs_fill_length(uint64_t answer)
+{
+    return (unsigned)(answer >> 32 & 0xFFFFu);
+}
+
 /* ---- A hop in the buffer, number from 0 --------------------------------- */
 
 /* Bytes 0-1, little-endian: the index of the node, ACS_HOST for host or complex. */
@@ -276,6 +307,9 @@ static inline const char *acs_refusal_text(enum acs_refusal refusal)
     case ACS_REFUSAL_HEADER:
         return "the TLP header is bad: unknown byte 0, wrong length, or over a 4,096-byte boundary";
     case ACS_REFUSAL_ROOM: return "the hop buffer is too short; 1,028 bytes are always enough";
+    case ACS_REFUSAL_LENGTH: return "the image has not 4,096 bytes, or the record not 144";
+    case ACS_REFUSAL_CAPABILITIES:
+        return "the image's list of extended capabilities is bad, or the ACS structure in it";
     }
     return "unknown refusal";
 }
