@@ -86,30 +86,31 @@ pub walk-begins : (image : List ℕ) → Walking image listStart 0
 unfolding acsStructure
 walk-begins image = record { inside = omega arith; upto = omega arith; owes = sym (same-walk image enoughSteps [] listStart tt) }
 
+-- at a turn the counter is below the loop's bound, which is no higher than the steps that are enough
 module _ {image : List ℕ} {at counter : ℕ} (w : Walking image at counter) where
-  turn : counter < enoughSteps → chain image (suc (enoughSteps - (counter + 1))) at ≡ acsStructure image
-  turn l =
+  turn : {bound : ℕ} → counter < bound → bound ≤ enoughSteps → chain image (suc (enoughSteps - (counter + 1))) at ≡ acsStructure image
+  turn l few =
       let m : suc (enoughSteps - (counter + 1)) ≡ enoughSteps - counter = omega arith in
       ap (λ (n : ℕ). chain image n at) m ∙ w .owes
 
-  pub leaves-list : {r : Structure} {o : Bool} → counter < enoughSteps → o ≡ isOffset at → o ≡ false → r ≡ offList at → r ≡ acsStructure image
+  pub leaves-list : {r : Structure} {o : Bool} {bound : ℕ} → counter < bound → bound ≤ enoughSteps → o ≡ isOffset at → o ≡ false → r ≡ offList at → r ≡ acsStructure image
   unfolding chain
-  leaves-list l h q e = e ∙ sym (rw (sym h ∙ q)) ∙ turn l
+  leaves-list l few h q e = e ∙ sym (rw (sym h ∙ q)) ∙ turn l few
 
-  pub first-found : {r : Structure} {o a : Bool} → counter < enoughSteps → o ≡ isOffset at → o ≡ true → a ≡ isAcs image at → a ≡ true
-      → r ≡ structureAt image at → r ≡ acsStructure image
+  pub first-found : {r : Structure} {o a : Bool} {bound : ℕ} → counter < bound → bound ≤ enoughSteps → o ≡ isOffset at → o ≡ true
+      → a ≡ isAcs image at → a ≡ true → r ≡ structureAt image at → r ≡ acsStructure image
   unfolding chain
-  first-found l h p i q e = e ∙ sym (rw (sym h ∙ p, sym i ∙ q)) ∙ turn l
+  first-found l few h p i q e = e ∙ sym (rw (sym h ∙ p, sym i ∙ q)) ∙ turn l few
 
-  pub walks-on : {next : ℕ} {o a : Bool} → counter < enoughSteps → o ≡ isOffset at → o ≡ true → a ≡ isAcs image at → a ≡ false
-      → next ≡ nextOffset image at → next < imageSize → Walking image next (counter + 1)
+  pub walks-on : {next : ℕ} {o a : Bool} {bound : ℕ} → counter < bound → bound ≤ enoughSteps → o ≡ isOffset at → o ≡ true
+      → a ≡ isAcs image at → a ≡ false → next ≡ nextOffset image at → next < imageSize → Walking image next (counter + 1)
   unfolding chain
-  walks-on l h p i q e in-image =
-      record { inside = in-image; upto = omega arith; owes = rw e (sym (rw (sym h ∙ p, sym i ∙ q)) ∙ turn l) }
+  walks-on l few h p i q e in-image =
+      record { inside = in-image; upto = omega arith; owes = rw e (sym (rw (sym h ∙ p, sym i ∙ q)) ∙ turn l few) }
 
-  pub goes-round : enoughSteps ≤ counter → Bad ≡ acsStructure image
+  pub goes-round : {bound : ℕ} → bound ≤ counter → enoughSteps ≤ bound → Bad ≡ acsStructure image
   unfolding chain
-  goes-round l = let m : 0 ≡ enoughSteps - counter = omega arith in ap (λ (n : ℕ). chain image n at) m ∙ w .owes
+  goes-round l many = let m : 0 ≡ enoughSteps - counter = omega arith in ap (λ (n : ℕ). chain image n at) m ∙ w .owes
 
   -- a multiple of 4 below 4,096 has a whole header
   pub header-there : {o : Bool} → o ≡ isOffset at → o ≡ true → at + 4 ≤ imageSize
