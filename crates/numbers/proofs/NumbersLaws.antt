@@ -29,15 +29,15 @@ copy-begin b₀ at n s from =
     let g : n - 0 ≡ n = omega arith in record { upto = omega arith; size = refl; owes = rw (e, f, g) }
 
 module _ {b₀ b s : List ℕ} {at n from k : ℕ} (c : Copied b₀ at n s from b k) where
-  pub copy-turn : {v j : ℕ} → k < n → v ≡ byte s j → j ≡ from + k → Copied b₀ at n s from (set b (at + k) v) (k + 1)
+  pub copy-turn : {v : ℕ} → k < n → v ≡ byte s (from + k) → Copied b₀ at n s from (set b (at + k) v) (k + 1)
   unfolding stored bytesFrom
-  copy-turn l e here =
+  copy-turn l e =
       let m : n - k ≡ suc (n - (k + 1)) = omega arith in
       let f : from + (k + 1) ≡ from + k + 1 = omega arith in
       record {
         upto = omega arith;
         size = length-set b (at + k) _ ∙ c .size;
-        owes = rw (e, here, f) (sym (one-stored b at k (byte s (from + k)) (bytesFrom (n - (k + 1)) s (from + k + 1)))
+        owes = rw (e, f) (sym (one-stored b at k (byte s (from + k)) (bytesFrom (n - (k + 1)) s (from + k + 1)))
             ∙ ap (λ (j : ℕ). sets b (at + k) (bytesFrom j s (from + k))) (sym m) ∙ c .owes);
       }
 

@@ -75,10 +75,7 @@ pub fn put_le_u64(b: &mut [u8], at: usize, x: u64)
 pub fn byte_or_0(s: &[u8], at: usize) -> u8
     ensures { λ r. ⌜ r ≡ byte (now (s .entry)) at ⌝ }
 {
-    if at < s.len() {
-        return s[at];
-    }
-    0
+    if at < s.len() { s[at] } else { 0 }
 }
 
 // Copies n bytes of `s` from `from` on to the place `at` of b; past the end of s they are 0.

@@ -19,6 +19,6 @@ put-bytes-spec =
     (λ c. search needs)
     (λ c. search needs)
     (λ c. search needs)
-    (λ c. search (copy-turn, needs))
+    (λ c. search (copy-turn, arith))
     (λ c. search needs)
     (λ c. search (copy-end, arith)))
