@@ -12,5 +12,5 @@ fn corpus_is_always_the_same_and_small() {
         .iter()
         .map(|item| 4 + item.len() + gate::answer(item).len())
         .sum();
-    assert!(bytes <= 2_500_000, "{bytes} bytes");
+    assert!(bytes <= 2_300_000, "{bytes} bytes");
 }

@@ -4,7 +4,7 @@ use cases::fabric::{fabric_f, request, WRITE};
 use cases::images::{bridge, Image};
 use cases::stream::{fill_item, input_bytes, query_item};
 use model::acsroute;
-use model::gate::answer;
+use model::gate::{answer, Item};
 
 /// The item of fill by hand: call, two lengths, and no bytes.
 const EMPTY: [u8; 9] = [2, 0, 0, 0, 0, 0, 0, 0, 0];
@@ -80,11 +80,40 @@ fn items_that_are_not_well_made() {
     }
 }
 
+/// The limits are tried here, not in the corpus: they need items that are large
+/// and say nothing else.
 #[test]
 fn the_longest_item_has_131072_bytes() {
-    let item = fill_item(&vec![0; 131_063], &[]);
+    let item = fill_item(&vec![0x5A; 131_063], &[]);
     assert_eq!(item.len(), 131_072);
     assert_eq!(answer(&item), "0000000000000806 \n");
-    assert_eq!(answer(&fill_item(&vec![0; 131_064], &[])), "input\n");
-    assert_eq!(answer(&query_item(&vec![0; 131_072])), "input\n");
+    assert_eq!(answer(&fill_item(&vec![0x5A; 131_064], &[])), "input\n");
+    // `acsroute` itself prints `input` for so long an input.
+    let input = vec![0; 131_072];
+    let longest = Item::Query(&input[1..]);
+    assert_eq!(Item::read(&query_item(&input[1..])), Some(longest));
+    assert_eq!(Item::read(&query_item(&input)), None);
+    assert_eq!(answer(&query_item(&input)), "input\n");
+}
+
+#[test]
+fn the_longest_record_has_65536_bytes() {
+    let record = vec![0xAB; 65_537];
+    let as_it_was = format!("0000000000000806 {}\n", "ab".repeat(65_536));
+    for image in [&[][..], &bridge().bytes] {
+        assert!(answer(&fill_item(image, &record[1..])) == as_it_was);
+        assert!(answer(&fill_item(image, &record)) == "input\n");
+    }
+    // The image isn't lent, and may be longer.
+    let image = vec![0x5A; 65_537];
+    let eight = "0000000000000806 abab\n";
+    assert_eq!(answer(&fill_item(&image, &record[..2])), eight);
+    // The longest record in the longest item.
+    let item = fill_item(&image[..65_527], &record[1..]);
+    assert_eq!(item.len(), 131_072);
+    assert!(answer(&item) == as_it_was);
+    assert_eq!(
+        answer(&fill_item(&image[..65_528], &record[1..])),
+        "input\n"
+    );
 }

@@ -7,17 +7,20 @@ use crate::{acsroute, fill};
 /// The most bytes that an item has.
 const MOST: usize = 131_072;
 
+/// The most bytes that its lent buffers have together.
+const MOST_LENT: usize = 65_536;
+
 /// What an item asks.
 #[derive(Clone, Copy, PartialEq, Eq, Debug)]
 pub enum Item<'a> {
     /// 0: the query of `acsroute`, followed by its input.
     Query(&'a [u8]),
-    /// 2: `acs_fill`, followed by two slices.
+    /// 2: `acs_fill`, followed by two slices; the record is a lent buffer.
     Fill { image: &'a [u8], record: &'a [u8] },
 }
 
 impl<'a> Item<'a> {
-    /// Nothing if the item isn't so made, or too long.
+    /// Nothing if the item isn't so made, is too long, or lends too much.
     pub fn read(item: &'a [u8]) -> Option<Item<'a>> {
         if item.len() > MOST {
             return None;
@@ -34,7 +37,8 @@ impl<'a> Item<'a> {
 fn read_fill(arguments: &[u8]) -> Option<Item<'_>> {
     let (image, rest) = read_slice(arguments)?;
     let (record, rest) = read_slice(rest)?;
-    rest.is_empty().then_some(Item::Fill { image, record })
+    let fits = rest.is_empty() && record.len() <= MOST_LENT;
+    fits.then_some(Item::Fill { image, record })
 }
 
 /// A slice, as 4 bytes of length and its bytes, and what comes after it.

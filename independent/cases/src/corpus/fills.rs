@@ -198,9 +198,5 @@ impl Fills {
             }
         }
         self.items.push([&[FILL][..], &[0xFF; 8]].concat());
-        // The longest item, and one byte more.
-        for length in [131_072, 131_073] {
-            self.items.push(fill_item(&vec![0x5A; length - 9], &[]));
-        }
     }
 }
