@@ -52,7 +52,7 @@ SEEDED = $(if $(SEED),--seed $(SEED)) $(if $(CASES),--cases $(CASES))
 
 .DELETE_ON_ERROR:
 .PHONY: help demo test lib install uninstall paths header example try compare faults bench corpus \
-        snapshots stack symbols clean FORCE
+        snapshots images stack symbols clean FORCE
 
 help:
 	@echo 'make demo        build, and show Fabric F in cases of docs/RULES.md'
@@ -71,6 +71,7 @@ help:
 	@echo 'make symbols     what the archive defines and needs, and that it has no memory of its own'
 	@echo 'make corpus      write the cases of crates/acscases anew'
 	@echo 'make snapshots   write the sample snapshots anew'
+	@echo 'make images      write the sample configuration spaces anew'
 	@echo 'make clean       remove build/ and independent/target/'
 	@echo
 	@echo 'The archive is proved and built by rt, which takes some minutes the first time. Where rt is'
@@ -209,6 +210,9 @@ corpus:
 
 snapshots:
 	$(PYTHON) tools/make_snapshots.py
+
+images:
+	$(PYTHON) tools/make_images.py
 
 clean:
 	rm -rf build independent/target
