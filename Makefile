@@ -183,8 +183,8 @@ example: build/service build/fill
 	@echo; echo 'build/service --help says what else can be asked, build/fill --help what a fill is.'
 
 # Whatever is promised to somebody who uses the library: a part for each.
-try: build/service build/demo build/names
-	@RUN='$(RUN)' CC='$(CC)' MAKE='$(MAKE)' ACS_LIB='$(ACS_LIB)' tools/try/run.sh $(SNAPSHOTS)
+try: build/service build/fill build/demo build/names
+	@RUN='$(RUN)' CC='$(CC)' MAKE='$(MAKE)' ACS_LIB='$(ACS_LIB)' tools/try/run.sh $(SNAPSHOTS) $(IMAGES)
 
 stack: build/stack
 	@$(RUN) build/stack $(SNAPSHOTS)
