@@ -68,7 +68,7 @@ help:
 	@echo 'make faults      that the comparison notices each deliberate fault (SEED=S CASES=N)'
 	@echo 'make bench       the library beside the independent program, timed'
 	@echo 'make instructions  the same, counted in instructions (needs valgrind)'
-	@echo 'make stack       how much stack the two calls need'
+	@echo 'make stack       how much stack the three calls need'
 	@echo 'make symbols     what the archive defines and needs, and that it has no memory of its own'
 	@echo 'make corpus      write the cases of crates/acscases anew'
 	@echo 'make snapshots   write the sample snapshots anew'
@@ -187,7 +187,7 @@ try: build/service build/fill build/demo build/names
 	@RUN='$(RUN)' CC='$(CC)' MAKE='$(MAKE)' ACS_LIB='$(ACS_LIB)' tools/try/run.sh $(SNAPSHOTS) $(IMAGES)
 
 stack: build/stack
-	@$(RUN) build/stack $(SNAPSHOTS)
+	@$(RUN) build/stack $(SNAPSHOTS) $(IMAGES)
 
 symbols: $(ACS_LIB)
 	@tools/symbols.sh $(ACS_LIB) $(TOOLS)
