@@ -44,6 +44,7 @@ ifneq ($(wildcard $(ACS_LIB)/libacs.a),)
 endif
 
 SNAPSHOTS := examples/snapshots
+IMAGES    := examples/images
 INDEPENDENT := --release --offline --manifest-path independent/Cargo.toml
 WITH_LIB = ACS_LIB='$(abspath $(dir $(ACS_LIB)))' $(CARGO_ENV) $(CARGO)
 AGAINST = $(WITH_LIB) run $(INDEPENDENT) -p against
@@ -52,7 +53,7 @@ SEEDED = $(if $(SEED),--seed $(SEED)) $(if $(CASES),--cases $(CASES))
 
 .DELETE_ON_ERROR:
 .PHONY: help demo test lib install uninstall paths header example try compare faults bench corpus \
-        snapshots stack symbols clean FORCE
+        snapshots images stack symbols clean FORCE
 
 help:
 	@echo 'make demo        build, and show Fabric F in cases of docs/RULES.md'
@@ -60,17 +61,18 @@ help:
 	@echo 'make lib         the archive and its header, in build/dist'
 	@echo 'make install     library, header, acs.pc, manual and pages under PREFIX ($(PREFIX)); DESTDIR is honoured'
 	@echo 'make uninstall   remove them'
-	@echo 'make example     build examples/service.c, and ask it about three snapshots'
-	@echo 'make try         ask the example, the header, the pages and the installation all that can go wrong'
+	@echo 'make example     build examples/service.c and fill.c, and ask them about three snapshots and three images'
+	@echo 'make try         ask the examples, the header, the pages and the installation all that can go wrong'
 	@echo 'make header      compile acs.h and the examples strictly, as C and C++, by CC, gcc, g++ and clang'
 	@echo 'make compare     the library against the independent program (SEED=S CASES=N)'
 	@echo 'make faults      that the comparison notices each deliberate fault (SEED=S CASES=N)'
 	@echo 'make bench       the library beside the independent program, timed'
 	@echo 'make instructions  the same, counted in instructions (needs valgrind)'
-	@echo 'make stack       how much stack the two calls need'
+	@echo 'make stack       how much stack the three calls need'
 	@echo 'make symbols     what the archive defines and needs, and that it has no memory of its own'
 	@echo 'make corpus      write the cases of crates/acscases anew'
 	@echo 'make snapshots   write the sample snapshots anew'
+	@echo 'make images      write the sample configuration spaces anew'
 	@echo 'make clean       remove build/ and independent/target/'
 	@echo
 	@echo 'The archive is proved and built by rt, which takes some minutes the first time. Where rt is'
@@ -149,6 +151,9 @@ COMPILE = $(CC) $(CPPFLAGS) -Iinclude -Iexamples $(STRICT) $(CFLAGS) $(LDFLAGS) 
 build/service: $(SERVICE) $(WORDS) $(HEADERS) $(ACS_LIB) build/setting
 	$(COMPILE)
 
+build/fill: examples/fill.c $(WORDS) $(HEADERS) $(ACS_LIB) build/setting
+	$(COMPILE)
+
 build/demo: examples/demo.c $(WORDS) $(HEADERS) $(ACS_LIB) build/setting
 	$(COMPILE)
 
@@ -162,27 +167,33 @@ build/stack: tools/stack.c $(WORDS) $(HEADERS) $(ACS_LIB) build/setting
 demo: build/demo
 	@$(RUN) build/demo $(SNAPSHOTS)
 
-example: build/service
+example: build/service build/fill
 	@echo; echo '$$ service fabric-f-17h.acs 4 write 80100000'
 	@$(RUN) build/service $(SNAPSHOTS)/fabric-f-17h.acs 4 write 80100000
 	@echo; echo '$$ service expired.acs 4 write 80100000'
 	@$(RUN) build/service $(SNAPSHOTS)/expired.acs 4 write 80100000 || test $$? -eq 1
 	@echo; echo '$$ service torn.acs 4 write 80100000'
 	@$(RUN) build/service $(SNAPSHOTS)/torn.acs 4 write 80100000 || test $$? -eq 1
-	@echo; echo 'build/service --help says what else can be asked.'
+	@echo; echo '$$ fill downstream-port.config'
+	@$(RUN) build/fill $(IMAGES)/downstream-port.config
+	@echo; echo '$$ fill not-extended.config'
+	@$(RUN) build/fill $(IMAGES)/not-extended.config || test $$? -eq 1
+	@echo; echo '$$ fill silent.config'
+	@$(RUN) build/fill $(IMAGES)/silent.config || test $$? -eq 1
+	@echo; echo 'build/service --help says what else can be asked, build/fill --help what a fill is.'
 
 # Whatever is promised to somebody who uses the library: a part for each.
-try: build/service build/demo build/names
-	@RUN='$(RUN)' CC='$(CC)' MAKE='$(MAKE)' ACS_LIB='$(ACS_LIB)' tools/try/run.sh $(SNAPSHOTS)
+try: build/service build/fill build/demo build/names
+	@RUN='$(RUN)' CC='$(CC)' MAKE='$(MAKE)' ACS_LIB='$(ACS_LIB)' tools/try/run.sh $(SNAPSHOTS) $(IMAGES)
 
 stack: build/stack
-	@$(RUN) build/stack $(SNAPSHOTS)
+	@$(RUN) build/stack $(SNAPSHOTS) $(IMAGES)
 
 symbols: $(ACS_LIB)
 	@tools/symbols.sh $(ACS_LIB) $(TOOLS)
 
 header:
-	@tools/strict.sh '$(CC)' $(SERVICE) $(WORDS) examples/demo.c tools/try/names.c
+	@tools/strict.sh '$(CC)' $(SERVICE) $(WORDS) examples/fill.c examples/demo.c tools/try/names.c
 
 # ---- The gate, and the independent program ----
 
@@ -209,6 +220,9 @@ corpus:
 
 snapshots:
 	$(PYTHON) tools/make_snapshots.py
+
+images:
+	$(PYTHON) tools/make_images.py
 
 clean:
 	rm -rf build independent/target

@@ -4,24 +4,30 @@
 #include <stdio.h>
 #include <string.h>
 
-int snapshot_load(struct snapshot *snapshot, const char *path)
+int file_load(const char *path, const char *what, uint8_t *bytes, size_t room, size_t *length)
 {
     FILE *file = fopen(path, "rb");
     if (file == NULL) {
-        fprintf(stderr, "%s: cannot open the snapshot: %s\n", path, strerror(errno));
+        fprintf(stderr, "%s: cannot open the %s: %s\n", path, what, strerror(errno));
         return 0;
     }
-    /* A file longer than every snapshot is refused whatever comes after, so the
-       first byte too many is enough. */
     errno = 0;
-    snapshot->length = fread(snapshot->bytes, 1, sizeof snapshot->bytes, file);
+    *length = fread(bytes, 1, room, file);
     if (ferror(file)) {
-        fprintf(stderr, "%s: cannot read the snapshot: %s\n", path, strerror(errno));
+        fprintf(stderr, "%s: cannot read the %s: %s\n", path, what, strerror(errno));
         fclose(file);
         return 0;
     }
     fclose(file);
     return 1;
+}
+
+int snapshot_load(struct snapshot *snapshot, const char *path)
+{
+    /* A file longer than every snapshot is refused whatever comes after, so the
+       first byte too many is enough. */
+    return file_load(path, "snapshot", snapshot->bytes, sizeof snapshot->bytes,
+                     &snapshot->length);
 }
 
 /* ---- Little-endian numbers ---- */

@@ -14,8 +14,12 @@ struct snapshot {
     size_t length;
 };
 
-/* Reads a file, as much of it as there is room for. Says what is wrong on
-   standard error and gives 0 if it can't be read. */
+/* Reads the first bytes of a file, as many as there is room for, and counts them.
+   Says what is wrong on standard error and gives 0 if it can't be read; there it
+   calls the file what it was meant to be, as in "snapshot". */
+int file_load(const char *path, const char *what, uint8_t *bytes, size_t room, size_t *length);
+
+/* Reads a snapshot's file in that way. */
 int snapshot_load(struct snapshot *snapshot, const char *path);
 
 /* Fields of the header, for a snapshot of at least 24 bytes. */

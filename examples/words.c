@@ -391,6 +391,8 @@ void print_refusal(FILE *out, const struct snapshot *snapshot, uint64_t now,
         print_bad_header(out, query);
         break;
     case ACS_REFUSAL_ROOM:
+    case ACS_REFUSAL_LENGTH: /* of acs_fill: examples/fill.c says more of it */
+    case ACS_REFUSAL_CAPABILITIES:
     case ACS_REFUSAL_NONE:
         fprintf(out, "%s.\n", acs_refusal_text(refusal));
         break;

@@ -7,6 +7,7 @@ if command -v clang > /dev/null; then
 fi
 has include/acs.h 'ZERO IS NO SUCCESS'
 has include/acs.h 'ZERO IS A LETTER'
+has include/acs.h '0 is a fill without ACS, not a fine record'
 lacks 'every layout and rule in full' cat include/acs.h
 # Each inline function has a comment right above it.
 undocumented() {

@@ -6,7 +6,7 @@ made() { "$MAKE" -s "$@" ACS_LIB="$ACS_LIB"; }
 
 says 0 '' made install PREFIX="$root"
 for file in lib/libacs.a include/acs.h lib/pkgconfig/acs.pc share/man/man3/acs.3 \
-    share/man/man3/acs_check.3 share/man/man3/acs_route.3 \
+    share/man/man3/acs_check.3 share/man/man3/acs_route.3 share/man/man3/acs_fill.3 \
     share/doc/acs/INTERFACE.md share/doc/acs/RULES.md; do
     says 0 '' test -s "$root/$file"
 done

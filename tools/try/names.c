@@ -43,6 +43,8 @@ static void numbers_of_documents(void)
     EXPECT(ACS_SNAPSHOT_MOST
            == ACS_SNAPSHOT_HEAD + ACS_SNAPSHOT_RECORDS_MOST * ACS_SNAPSHOT_RECORD);
     EXPECT(ACS_HOPS_ROOM == ACS_HOPS_MOST * ACS_HOP_SIZE);
+    EXPECT(ACS_IMAGE_SIZE == 4096 && ACS_SNAPSHOT_RECORD == 144);
+    EXPECT(ACS_REFUSAL_LENGTH == 8 && ACS_REFUSAL_CAPABILITIES == 9);
 }
 
 static void version_is_one(void)
@@ -71,6 +73,18 @@ static void readers_are_guarded(void)
     EXPECT(acs_answer_abort(violation | (uint64_t)1 << 48) == 1);
 }
 
+/* A fill's word has no kind; its byte 0 is 6 for a refusal, and else 0. */
+static void fills_are_read(void)
+{
+    const uint64_t filled = (uint64_t)0x0FD8 << 16 | (uint64_t)40 << 32, none = 0;
+    EXPECT(acs_fill_offset(filled) == 0xFD8 && acs_fill_length(filled) == 40);
+    EXPECT(acs_fill_offset(none) == 0 && acs_fill_length(none) == 0);
+    EXPECT(!acs_answer_refused(filled) && !acs_answer_refused(none));
+    EXPECT(acs_answer_refusal(filled) == ACS_REFUSAL_NONE);
+    EXPECT(acs_answer_refusal(6 | 8 << 8) == ACS_REFUSAL_LENGTH);
+    EXPECT(acs_answer_refusal(6 | 9 << 8) == ACS_REFUSAL_CAPABILITIES);
+}
+
 /* ---- Words ---- */
 
 static void words_of_answers(void)
@@ -93,6 +107,10 @@ static void words_of_answers(void)
     SAYS(acs_action_name(ACS_ACTION_END), "ends here");
     SAYS(acs_record_kind_name(ACS_RECORD_DOWNSTREAM_PORT), "downstream port");
     SAYS(acs_address_type_name(ACS_AT_TRANSLATED), "translated");
+    SAYS(acs_refusal_text(ACS_REFUSAL_LENGTH),
+         "the image has not 4,096 bytes, or the record not 144");
+    SAYS(acs_refusal_text(ACS_REFUSAL_CAPABILITIES),
+         "the image's list of extended capabilities is bad, or the ACS structure in it");
 }
 
 /* A number with no name gets words that say so, and each other one its own. */
@@ -101,12 +119,12 @@ static void every_number_has_words(void)
     for (int a = 0; a < 12; a++) {
         expect((strncmp(acs_kind_name((enum acs_kind)a), "unknown", 7) == 0) == (a > 6),
                "acs_kind_name knows 0 to 6");
-        expect((strncmp(acs_refusal_text((enum acs_refusal)a), "unknown", 7) == 0) == (a > 7),
-               "acs_refusal_text knows 0 to 7");
+        expect((strncmp(acs_refusal_text((enum acs_refusal)a), "unknown", 7) == 0) == (a > 9),
+               "acs_refusal_text knows 0 to 9");
         expect((strncmp(acs_action_name((enum acs_action)a), "unknown", 7) == 0)
                    == (a < 1 || a > 7),
                "acs_action_name knows 1 to 7");
-        for (int b = 0; b < a && a <= 7; b++)
+        for (int b = 0; b < a && a <= 9; b++)
             expect(strcmp(acs_refusal_text((enum acs_refusal)a),
                           acs_refusal_text((enum acs_refusal)b)) != 0,
                    "acs_refusal_text differs by number");
@@ -187,6 +205,61 @@ static void library_agrees(const char *folder)
     EXPECT(acs_answer_refusal(answer) == ACS_REFUSAL_ROOM);
 }
 
+/* ---- With the library: a fill, and what it leaves ---- */
+
+/* Whether the bytes of a record from one to before another are all of one value. */
+static int all(const uint8_t *record, size_t from, size_t end, uint8_t value)
+{
+    for (size_t i = from; i < end; i++)
+        if (record[i] != value)
+            return 0;
+    return 1;
+}
+
+static void fills_are_made(void)
+{
+    static const uint8_t buses[3] = { 2, 3, 5 };
+    static const uint8_t acs[12] = { 0x0D, 0, 0x01, 0, 0x7F, 0x08, 0x37, 0, 0x04, 0, 0, 0x80 };
+    static uint8_t image[ACS_IMAGE_SIZE];
+    uint8_t record[ACS_SNAPSHOT_RECORD];
+    uint64_t answer;
+    memset(image, 0, sizeof image);
+    memset(record, 0xA5, sizeof record);
+    memcpy(image + 0x18, buses, sizeof buses);
+    memcpy(image + 0x100, acs, sizeof acs);
+    answer = acs_fill(image, sizeof image, record, sizeof record);
+    EXPECT(!acs_answer_refused(answer));
+    EXPECT(acs_fill_offset(answer) == 0x100 && acs_fill_length(answer) == sizeof acs);
+    /* Bus numbers; Capability and Control; the vector, and zeros after it. */
+    EXPECT(record[4] == 2 && record[6] == 3 && record[7] == 5);
+    EXPECT(memcmp(record + 8, acs + 4, 4) == 0 && memcmp(record + 16, acs + 8, 4) == 0);
+    EXPECT(all(record, 20, 48, 0));
+    /* Base and limit 0: both windows are the first 1 MiB. */
+    EXPECT(all(record, 48, 56, 0) && record[56] == 0xFF && record[58] == 0x0F && record[59] == 0);
+    EXPECT(memcmp(record + 48, record + 64, 16) == 0);
+    EXPECT(all(record, 0, 4, 0xA5) && record[5] == 0xA5 && all(record, 12, 16, 0xA5));
+    EXPECT(all(record, 80, sizeof record, 0xA5));
+    image[0x100] = 0;
+    answer = acs_fill(image, sizeof image, record, sizeof record);
+    EXPECT(answer == 0 && all(record, 8, 12, 0) && all(record, 16, 48, 0));
+}
+
+static void fills_are_refused(void)
+{
+    static uint8_t image[ACS_IMAGE_SIZE + 1];
+    uint8_t record[ACS_SNAPSHOT_RECORD + 1];
+    memset(image, 0xFF, sizeof image);
+    memset(record, 0xA5, sizeof record);
+    EXPECT(acs_answer_refusal(acs_fill(image, 4096, record, 144)) == ACS_REFUSAL_CAPABILITIES);
+    EXPECT(acs_answer_refusal(acs_fill(image, 4095, record, 144)) == ACS_REFUSAL_LENGTH);
+    EXPECT(acs_answer_refusal(acs_fill(image, 4097, record, 144)) == ACS_REFUSAL_LENGTH);
+    EXPECT(acs_answer_refusal(acs_fill(image, 4096, record, 143)) == ACS_REFUSAL_LENGTH);
+    EXPECT(acs_answer_refusal(acs_fill(image, 4096, record, 145)) == ACS_REFUSAL_LENGTH);
+    EXPECT(acs_answer_refusal(acs_fill(NULL, 0, NULL, 0)) == ACS_REFUSAL_LENGTH);
+    EXPECT(acs_answer_node(acs_fill(image, 4096, record, 144)) == 0);
+    EXPECT(all(record, 0, sizeof record, 0xA5));
+}
+
 int main(int argc, char **argv)
 {
     if (argc != 2) {
@@ -196,12 +269,15 @@ int main(int argc, char **argv)
     numbers_of_documents();
     version_is_one();
     readers_are_guarded();
+    fills_are_read();
     words_of_answers();
     every_number_has_words();
     requests_are_written();
     bad_headers_are_not_written();
     completions_are_written();
     library_agrees(argv[1]);
+    fills_are_made();
+    fills_are_refused();
     printf("%u facts of acs.h, %u wrong\n", count, wrong);
     return wrong == 0 ? 0 : 1;
 }

@@ -2,18 +2,20 @@
 # Asks everything that is promised to somebody who uses the library, and fails
 # where it is missing:
 #
-#     tools/try/run.sh SNAPSHOTS          (make try)
+#     tools/try/run.sh SNAPSHOTS IMAGES          (make try)
 #
-# from the repository's folder, with build/service, build/demo and build/names
-# built. Each part stands in a file of its own beside this one and asks by the
-# functions below; a new call brings a new part. From the environment: ACS_LIB
-# (the archive), CC, MAKE, and RUN, which is put in front of each program, as in
-# RUN='valgrind -q'.
+# from the repository's folder, with build/service, build/fill, build/demo and
+# build/names built. Each part stands in a file of its own beside this one and
+# asks by the functions below; a new call brings a new part. From the environment:
+# ACS_LIB (the archive), CC, MAKE, and RUN, which is put in front of each program,
+# as in RUN='valgrind -q'.
 set -u
 
-parts='usage inputs refusals answers evidence header pages install'
+parts='usage inputs refusals answers evidence fill header pages install'
 
 snapshots=$1
+# shellcheck disable=SC2034 # used by a part
+images=$2
 service=build/service
 run=${RUN:-}
 MAKE=${MAKE:-make}
