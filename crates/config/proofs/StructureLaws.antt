@@ -11,7 +11,7 @@ use Rattle.rules.specs.declared.Structure.{Structure}
 use Rattle.rules.specs.declared.Structure.the-variants.{Stands, Absent, Bad}
 use Rattle.rules.specs.Bytes.{le, bit}
 use Rattle.rules.specs.Snapshot.{bitE, sizeField, vectorSize}
-use Rattle.rules.specs.Image.{imageSize, capabilityVersion, nextOffset, isOffset, isAmong, isAcs, structureLength, structureAt}
+use Rattle.rules.specs.Image.{capabilityVersion, nextOffset, isOffset, isAmong, isAcs, structureLength, structureAt}
 use Rattle.rules.specs.Image.{enoughSteps, listStart, follow, acsStructure, partOf}
 use Rattle.rules.proofs.Logic.{cond-case, either, both, and-right-false}
 
@@ -25,27 +25,27 @@ with-vector c f p e = rw (e, sym f, p)
 pub no-vector : (c : ℕ) {on : Bool} → on ≡ bit bitE c → on ≡ false → 8 ≡ structureLength c
 no-vector c f q = rw (sym f, q)
 
-module _ (image : List ℕ) (at : ℕ) (size : length image ≡ imageSize) where
-  pub no-capability : imageSize < at + 8 → Bad ≡ structureAt image at
+module _ (image : List ℕ) (at : ℕ) where
+  pub no-capability : length image < at + 8 → Bad ≡ structureAt image at
   unfolding structureAt
   no-capability l =
       let c : ℕ = le 2 image (at + 4) in
-      rw (and-right-false (eqb (capabilityVersion image at) 1) _ (lt-leb (at + structureLength c) (length image) (omega (arith, size))))
+      rw (and-right-false (eqb (capabilityVersion image at) 1) _ (lt-leb (at + structureLength c) (length image) (omega arith)))
 
-  pub runs-past : {c n : ℕ} → c ≡ le 2 image (at + 4) → n ≡ structureLength c → imageSize < at + n → Bad ≡ structureAt image at
+  pub runs-past : {c n : ℕ} → c ≡ le 2 image (at + 4) → n ≡ structureLength c → length image < at + n → Bad ≡ structureAt image at
   unfolding structureAt
   runs-past {c} {n} h e l =
-      rw (sym h, and-right-false (eqb (capabilityVersion image at) 1) _ (lt-leb (at + structureLength c) (length image) (omega (arith, size))))
+      rw (sym h, and-right-false (eqb (capabilityVersion image at) 1) _ (lt-leb (at + structureLength c) (length image) (omega arith)))
 
   pub other-version : {v : ℕ} → v ≡ capabilityVersion image at → (v ≡ 1 → ⊥) → Bad ≡ structureAt image at
   unfolding structureAt
   other-version e f = rw (ne-eqb (capabilityVersion image at) 1 (λ w. f (e ∙ w)))
 
-  pub stands : {c n v : ℕ} → c ≡ le 2 image (at + 4) → n ≡ structureLength c → v ≡ capabilityVersion image at → v ≡ 1 → at + n ≤ imageSize
+  pub stands : {c n v : ℕ} → c ≡ le 2 image (at + 4) → n ≡ structureLength c → v ≡ capabilityVersion image at → v ≡ 1 → at + n ≤ length image
       → Stands at n ≡ structureAt image at
   unfolding structureAt
   stands {n = n} h e f g l =
-      rw (eq-eqb (capabilityVersion image at) 1 (sym f ∙ g), sym h, sym e, le-leb (at + n) (length image) (omega (arith, size)))
+      rw (eq-eqb (capabilityVersion image at) 1 (sym f ∙ g), sym h, sym e, le-leb (at + n) (length image) (omega arith))
 
 -- a structure that stands is inside the image
 abbrev Inside : List ℕ → Structure → Type 0

@@ -10,13 +10,14 @@ ghost use mathlib.Core.Path.{_≡_};
 ghost use mathlib.Core.List.{[], _∷_};
 ghost use Prim.Native.Nat.{_+_, _≤_};
 ghost use lib.ListN.{length};
+ghost use Rattle.rules.specs.Bytes.{bytesFrom, laid};
 ghost use Rattle.rules.specs.Image.{imageSize};
-ghost use Rattle.rules.specs.Fill.{recordSize, bytesFrom, rangeBytes, stored, fillAll, filledFields};
+ghost use Rattle.rules.specs.Fill.{recordSize, rangeBytes, fillAll, filledFields};
 
 // Own bus, secondary and subordinate.
 fn put_buses(into: &mut [u8], b: Buses)
     requires { ⌜ length (now into) ≡ recordSize ⌝ }
-    ensures { λ _. ⌜ now (into .exit) ≡ stored (stored (now (into .entry)) 4 (b .primary .0 ∷ [])) 6 (b .secondary .0 ∷ b .subordinate .0 ∷ []) ⌝ }
+    ensures { λ _. ⌜ now (into .exit) ≡ laid (laid (now (into .entry)) 4 (b .primary .0 ∷ [])) 6 (b .secondary .0 ∷ b .subordinate .0 ∷ []) ⌝ }
 {
     into[4] = b.primary.0;
     into[6] = b.secondary.0;
@@ -26,7 +27,7 @@ fn put_buses(into: &mut [u8], b: Buses)
 // Capability, Control and the vector of an ACS structure; where a byte is not in it, 0.
 fn put_acs(into: &mut [u8], acs: &[u8])
     requires { ⌜ length (now into) ≡ recordSize ⌝ }
-    ensures { λ _. ⌜ now (into .exit) ≡ stored (stored (stored (now (into .entry)) 8 (bytesFrom 2 (now (acs .entry)) 4)) 10 (bytesFrom 2 (now (acs .entry)) 6)) 16 (bytesFrom 32 (now (acs .entry)) 8) ⌝ }
+    ensures { λ _. ⌜ now (into .exit) ≡ laid (laid (laid (now (into .entry)) 8 (bytesFrom 2 (now (acs .entry)) 4)) 10 (bytesFrom 2 (now (acs .entry)) 6)) 16 (bytesFrom 32 (now (acs .entry)) 8) ⌝ }
 {
     put_bytes(into, 8, 2, acs, 4);
     put_bytes(into, 10, 2, acs, 6);
@@ -36,7 +37,7 @@ fn put_acs(into: &mut [u8], acs: &[u8])
 // First and last address of a range.
 fn put_range(into: &mut [u8], at: usize, r: Range)
     requires { ⌜ at + 16 ≤ length (now into) ⌝ }
-    ensures { λ _. ⌜ now (into .exit) ≡ stored (now (into .entry)) at (rangeBytes r) ⌝ }
+    ensures { λ _. ⌜ now (into .exit) ≡ laid (now (into .entry)) at (rangeBytes r) ⌝ }
 {
     put_le_u64(into, at, r.first);
     put_le_u64(into, at + 8, r.last);

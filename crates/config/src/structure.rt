@@ -8,9 +8,6 @@ ghost use Prim.Native.Nat.{_+_, _≤_};
 ghost use lib.ListN.{length};
 ghost use Rattle.rules.specs.Image as rule;
 
-// Where an image ends.
-const IMAGE: u16 = 4096;
-
 // Header and registers, and with E the vector in whole doublewords.
 fn structure_length(capability: Acs) -> u16
     ensures { λ r. ⌜ r ≡ rule.structureLength (capability .0) ⌝ }
@@ -27,12 +24,13 @@ pub fn structure_at(image: &[u8], at: u16) -> Structure
     requires { ⌜ (length (now image) ≡ rule.imageSize) × (at + 4 ≤ rule.imageSize) ⌝ }
     ensures { λ r. ⌜ r ≡ rule.structureAt (now (image .entry)) at ⌝ }
 {
-    if IMAGE < at + 8 {
+    let from = at as usize;
+    if image.len() < from + 8 {
         return Structure::Bad; // its Capability is not there
     }
-    let length = structure_length(Acs(le_u16(image, at as usize + 4)));
+    let length = structure_length(Acs(le_u16(image, from + 4)));
     if version(image, at) == 1 {
-        if at + length <= IMAGE {
+        if from + length as usize <= image.len() {
             return Structure::Stands(at, length);
         }
     }
@@ -41,7 +39,7 @@ pub fn structure_at(image: &[u8], at: u16) -> Structure
 
 // The part of the image that the structure is.
 pub fn part(image: &[u8], acs: Structure) -> &[u8]
-    requires { ⌜ (length (now image) ≡ rule.imageSize) × (acs ≡ rule.acsStructure (now image)) ⌝ }
+    requires { ⌜ acs ≡ rule.acsStructure (now image) ⌝ }
     ensures { λ r. ⌜ now r ≡ rule.partOf (now (image .entry)) acs ⌝ }
 {
     match acs {

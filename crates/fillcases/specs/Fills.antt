@@ -5,7 +5,8 @@ use mathlib.Core.List.{List, [], _∷_, _++_}
 use Prim.Native.Nat.{ℕ, _+_, _-_, _*_}
 use lib.ListN.{replicate}
 use Rattle.rules.specs.Refuse.{Result, refused, answered}
-use Rattle.rules.specs.Fill.{Field, field, leBytes, fillAll, Extent, extent, filling, recordAfter}
+use Rattle.rules.specs.Bytes.{leBytes}
+use Rattle.rules.specs.Fill.{Field, field, fillAll, Extent, extent, filling, recordAfter}
 
 -- an answer, and the record after it
 pub record Done : Type 0 where

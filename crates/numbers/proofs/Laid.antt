@@ -5,15 +5,18 @@ use Prim.Native.Nat.{ℕ, suc, _+_, _-_, _≤_, _<_}
 use native.Mathlib.Numerals.{add-one}
 use native.Mathlib.Omega.{arith}
 use lib.ListN.{length, take, drop, set, length-append, length-drop, take-append-drop, drop-of-length-le}
-use lib.Seq.{set-split, take-all, drop-drop, take-at, drop-at, length-take-le}
+use lib.Seq.{sets, sets-eq, take-all, drop-drop, take-at, drop-at, length-take-le}
 use borrow.Rule.Slice.PartMut.{putMid}
-use Rattle.numbers.specs.Laid.{laid}
+use Rattle.rules.specs.Bytes.{laid}
 
 -- a buffer with x laid in is as long as before, has x after what stood before it, and the rest as it was
 module _ (b : List ℕ) (at : ℕ) (x : List ℕ) (room : at + length x ≤ length b) where
   split : laid b at x ≡ (take at b ++ x) ++ drop (at + length x) b
   unfolding laid
-  split = sym (append-assoc (take at b) x (drop (at + length x) b))
+  split = sets-eq x b at room
+
+  pub laid-split : laid b at x ≡ take at b ++ (x ++ drop (at + length x) b)
+  laid-split = split ∙ append-assoc (take at b) x (drop (at + length x) b)
 
   length-head : length (take at b ++ x) ≡ at + length x
   length-head = length-append (take at b) x ∙ ap (λ (n : ℕ). n + length x) (length-take-le at b (omega arith))
@@ -41,7 +44,6 @@ four-sets (a ∷ b ∷ c ∷ d ∷ l) w x y z h = refl
 -- the part from `at` on comes back with its first four bytes stored
 pub put-four : (b : List ℕ) (at w x y z : ℕ) → at + 4 ≤ length b
     → putMid at (length b - at) b (set (set (set (set (take (length b - at) (drop at b)) 0 w) 1 x) 2 y) 3 z) ≡ laid b at (w ∷ x ∷ y ∷ z ∷ [])
-unfolding laid
 put-four b at w x y z h =
     rw (
       take-all (length b - at) (drop at b) (simp length-drop (omega arith)),
@@ -49,25 +51,22 @@ put-four b at w x y z h =
       drop-drop 4 at b,
       drop-of-length-le (drop at b) {i = length b - at} (simp length-drop (omega arith)),
       append-nil (drop (at + 4) b),
-    )
+    ) (sym (laid-split b at (w ∷ x ∷ y ∷ z ∷ []) h))
 
 -- nothing laid in
 pub laid-none : (b : List ℕ) (at : ℕ) → laid b at [] ≡ b
 unfolding laid
-laid-none b at = let e : at + 0 ≡ at = omega arith in rw e (take-append-drop at b)
+laid-none b at = refl
 
 -- one byte laid in is one store
-pub laid-one : (b : List ℕ) (at x : ℕ) → at < length b → set b at x ≡ laid b at (x ∷ [])
+pub laid-one : (b : List ℕ) (at x : ℕ) → set b at x ≡ laid b at (x ∷ [])
 unfolding laid
-laid-one b at x l = let e : at + 1 ≡ suc at = add-one at in rw e (set-split b at x l)
+laid-one b at x = refl
 
 -- laid in side by side
-pub laid-both : (b : List ℕ) (at : ℕ) (x y : List ℕ) → at + length x + length y ≤ length b
-    → laid (laid b at x) (at + length x) y ≡ laid b at (x ++ y)
+pub laid-both : (x y b : List ℕ) (at : ℕ) → laid (laid b at x) (at + length x) y ≡ laid b at (x ++ y)
 unfolding laid
-laid-both b at x y room =
-    let r : at + length x ≤ length b = omega arith in
-    let e : at + length (x ++ y) ≡ at + length x + length y = simp length-append (omega arith) in
-    rw (e, take-laid b at x r, drop-laid b at x r (length y))
-    (append-assoc (take at b) x (y ++ drop (at + length x + length y) b)
-    ∙ ap (λ (z : List ℕ). take at b ++ z) (sym (append-assoc x y (drop (at + length x + length y) b))))
+laid-both [] y b at = let e : at + 0 ≡ at = omega arith in rw e
+laid-both (v ∷ x) y b at =
+    let e : at + suc (length x) ≡ suc at + length x = omega arith in
+    ap (λ (n : ℕ). sets (sets (set b at v) (suc at) x) n y) e ∙ laid-both x y (set b at v) (suc at)

@@ -2,8 +2,7 @@
 ghost use mathlib.Core.Path.{_≡_};
 ghost use Prim.Native.Nat.{_+_, _^_, _≤_, _<_};
 ghost use lib.ListN.{length};
-ghost use Rattle.rules.specs.Bytes.{byte, le};
-ghost use Rattle.rules.specs.Fill.{leBytes, bytesFrom, stored};
+ghost use Rattle.rules.specs.Bytes.{byte, le, leBytes, bytesFrom, laid};
 ghost use Rattle.rules.specs.Records.{zeros};
 ghost use Rattle.numbers.specs.Sums.{two, eight};
 
@@ -62,7 +61,7 @@ pub fn le_u64(s: &[u8], at: usize) -> u64
 // Puts a number into the eight bytes from `at` on, little-endian.
 pub fn put_le_u64(b: &mut [u8], at: usize, x: u64)
     requires { ⌜ at + 8 ≤ length (now b) ⌝ }
-    ensures { λ _. ⌜ now (b .exit) ≡ stored (now (b .entry)) at (leBytes 8 x) ⌝ }
+    ensures { λ _. ⌜ now (b .exit) ≡ laid (now (b .entry)) at (leBytes 8 x) ⌝ }
 {
     let mut rest = x;
     for k in 0..8 {
@@ -81,7 +80,7 @@ pub fn byte_or_0(s: &[u8], at: usize) -> u8
 // Copies n bytes of `s` from `from` on to the place `at` of b; past the end of s they are 0.
 pub fn put_bytes(b: &mut [u8], at: usize, n: usize, s: &[u8], from: usize)
     requires { ⌜ (at + n ≤ length (now b)) × (from + n < 2 ^ 64) ⌝ }
-    ensures { λ _. ⌜ now (b .exit) ≡ stored (now (b .entry)) at (bytesFrom n (now (s .entry)) from) ⌝ }
+    ensures { λ _. ⌜ now (b .exit) ≡ laid (now (b .entry)) at (bytesFrom n (now (s .entry)) from) ⌝ }
 {
     for k in 0..n {
         b[at + k] = byte_or_0(s, from + k);

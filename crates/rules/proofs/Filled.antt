@@ -10,42 +10,42 @@ use lib.ListN.{length, set, length-set, List·getD-append}
 use lib.Seq.{sets, length-sets, getD-set-same, getD-set-other, getD-append-add}
 use borrow.Author.Tests.{eqb-true, eqb-false, leb-true, leb-false, ltb-true, ltb-false, eq-eqb, le-leb, lt-ltb}
 use Rattle.rules.specs.declared.Range.{Range}
-use Rattle.rules.specs.Bytes.{byte, le, within}
+use Rattle.rules.specs.Bytes.{byte, le, leBytes, bytesFrom, laid, within}
 use Rattle.rules.specs.Snapshot.{base, kind, first, last, closed, isBridge}
 use Rattle.rules.specs.Records.{windowFine, rangeFine}
 use Rattle.rules.specs.Properties.{AreBytes}
 use Rattle.rules.specs.Image.{primaryBus, secondaryBus, subordinateBus, memoryWindow, prefetchableWindow, acsStructure, partOf}
 use Rattle.rules.specs.Image.{range, window, upperHalf, baseAddress, limitAddress}
-use Rattle.rules.specs.Fill.{recordSize, bytesFrom, leBytes, rangeBytes, stored, filledFields, fillAll, filled, isOther, ByteByByte, Holds}
+use Rattle.rules.specs.Fill.{recordSize, rangeBytes, filledFields, fillAll, filled, isOther, ByteByByte, Holds}
 use Rattle.rules.proofs.Logic.{either, contradiction, or-right}
 
--- a byte before, among and behind the bytes stored
-stored-before : (x r : List ℕ) (from k : ℕ) → k < from → byte (stored r from x) k ≡ byte r k
-unfolding stored
-stored-before [] r from k l = refl
-stored-before (v ∷ x) r from k l =
-    stored-before x (set r from v) (suc from) k (omega arith) ∙ getD-set-other r from k v 0 (λ e. absurd (omega arith))
+-- a byte before, among and behind the bytes laid in
+laid-before : (x r : List ℕ) (from k : ℕ) → k < from → byte (laid r from x) k ≡ byte r k
+unfolding laid
+laid-before [] r from k l = refl
+laid-before (v ∷ x) r from k l =
+    laid-before x (set r from v) (suc from) k (omega arith) ∙ getD-set-other r from k v 0 (λ e. absurd (omega arith))
 
-stored-behind : (x r : List ℕ) (from k : ℕ) → from + length x ≤ k → byte (stored r from x) k ≡ byte r k
-unfolding stored
-stored-behind [] r from k l = refl
-stored-behind (v ∷ x) r from k l =
-    stored-behind x (set r from v) (suc from) k (omega arith) ∙ getD-set-other r from k v 0 (λ e. absurd (omega arith))
+laid-behind : (x r : List ℕ) (from k : ℕ) → from + length x ≤ k → byte (laid r from x) k ≡ byte r k
+unfolding laid
+laid-behind [] r from k l = refl
+laid-behind (v ∷ x) r from k l =
+    laid-behind x (set r from v) (suc from) k (omega arith) ∙ getD-set-other r from k v 0 (λ e. absurd (omega arith))
 
-stored-at : (x r : List ℕ) (from j : ℕ) → from + length x ≤ length r → j < length x → byte (stored r from x) (from + j) ≡ byte x j
-unfolding stored
-stored-at [] r from j room l = absurd (omega arith)
-stored-at (v ∷ x) r from zero room l =
+laid-at : (x r : List ℕ) (from j : ℕ) → from + length x ≤ length r → j < length x → byte (laid r from x) (from + j) ≡ byte x j
+unfolding laid
+laid-at [] r from j room l = absurd (omega arith)
+laid-at (v ∷ x) r from zero room l =
     let e : from + 0 ≡ from = omega arith in
-    rw e (stored-before x (set r from v) (suc from) from (omega arith) ∙ getD-set-same r from v 0 (omega arith))
-stored-at (v ∷ x) r from (suc j) room l =
+    rw e (laid-before x (set r from v) (suc from) from (omega arith) ∙ getD-set-same r from v 0 (omega arith))
+laid-at (v ∷ x) r from (suc j) room l =
     let e : from + suc j ≡ suc from + j = omega arith in
     let n : length (set r from v) ≡ length r = length-set r from v in
-    rw e (stored-at x (set r from v) (suc from) j (omega arith) (omega arith))
+    rw e (laid-at x (set r from v) (suc from) j (omega arith) (omega arith))
 
-length-stored : (x r : List ℕ) (from : ℕ) → length (stored r from x) ≡ length r
-unfolding stored
-length-stored x r from = length-sets r from x
+length-after : (x r : List ℕ) (from : ℕ) → length (laid r from x) ≡ length r
+unfolding laid
+length-after x r from = length-sets r from x
 
 length-bytes : (n : ℕ) (b : List ℕ) (i : ℕ) → length (bytesFrom n b i) ≡ n
 unfolding bytesFrom
@@ -58,13 +58,13 @@ bytes-at zero b i k l = absurd (omega arith)
 bytes-at (suc n) b i zero l = let e : i + 0 ≡ i = omega arith in rw e
 bytes-at (suc n) b i (suc k) l = let e : i + suc k ≡ i + 1 + k = omega arith in rw e (bytes-at n b (i + 1) k (omega arith))
 
-stored-outside : (x r : List ℕ) (from k : ℕ) → (from ≤ k → k < from + length x → ⊥) → byte (stored r from x) k ≡ byte r k
-stored-outside x r from k out =
+laid-outside : (x r : List ℕ) (from k : ℕ) → (from ≤ k → k < from + length x → ⊥) → byte (laid r from x) k ≡ byte r k
+laid-outside x r from k out =
     either (leb from k)
     (λ p. either (leb (from + length x) k)
-    (λ q. stored-behind x r from k (leb-true (from + length x) k q))
+    (λ q. laid-behind x r from k (leb-true (from + length x) k q))
     (λ q. absurd (out (leb-true from k p) (leb-false (from + length x) k q))))
-    (λ q. stored-before x r from k (leb-false from k q))
+    (λ q. laid-before x r from k (leb-false from k q))
 
 length-digits : (n x : ℕ) → length (leBytes n x) ≡ n
 unfolding leBytes
@@ -94,56 +94,56 @@ other k h =
 
 module _ (image acs r : List ℕ) (size : length r ≡ recordSize) where
   abbrev r₁ : List ℕ
-  r₁ = stored r 4 (primaryBus image ∷ [])
+  r₁ = laid r 4 (primaryBus image ∷ [])
 
   abbrev r₂ : List ℕ
-  r₂ = stored r₁ 6 (secondaryBus image ∷ subordinateBus image ∷ [])
+  r₂ = laid r₁ 6 (secondaryBus image ∷ subordinateBus image ∷ [])
 
   abbrev r₃ : List ℕ
-  r₃ = stored r₂ 8 (bytesFrom 2 acs 4)
+  r₃ = laid r₂ 8 (bytesFrom 2 acs 4)
 
   abbrev r₄ : List ℕ
-  r₄ = stored r₃ 10 (bytesFrom 2 acs 6)
+  r₄ = laid r₃ 10 (bytesFrom 2 acs 6)
 
   abbrev r₅ : List ℕ
-  r₅ = stored r₄ 16 (bytesFrom 32 acs 8)
+  r₅ = laid r₄ 16 (bytesFrom 32 acs 8)
 
   abbrev r₆ : List ℕ
-  r₆ = stored r₅ 48 (rangeBytes (memoryWindow image))
+  r₆ = laid r₅ 48 (rangeBytes (memoryWindow image))
 
   abbrev r₇ : List ℕ
-  r₇ = stored r₆ 64 (rangeBytes (prefetchableWindow image))
+  r₇ = laid r₆ 64 (rangeBytes (prefetchableWindow image))
 
   size₁ : length r₁ ≡ recordSize
-  size₁ = length-stored _ r 4 ∙ size
+  size₁ = length-after _ r 4 ∙ size
 
   size₂ : length r₂ ≡ recordSize
-  size₂ = length-stored _ r₁ 6 ∙ size₁
+  size₂ = length-after _ r₁ 6 ∙ size₁
 
   size₃ : length r₃ ≡ recordSize
-  size₃ = length-stored _ r₂ 8 ∙ size₂
+  size₃ = length-after _ r₂ 8 ∙ size₂
 
   size₄ : length r₄ ≡ recordSize
-  size₄ = length-stored _ r₃ 10 ∙ size₃
+  size₄ = length-after _ r₃ 10 ∙ size₃
 
   size₅ : length r₅ ≡ recordSize
-  size₅ = length-stored _ r₄ 16 ∙ size₄
+  size₅ = length-after _ r₄ 16 ∙ size₄
 
   size₆ : length r₆ ≡ recordSize
-  size₆ = length-stored _ r₅ 48 ∙ size₅
+  size₆ = length-after _ r₅ 48 ∙ size₅
 
   size₇ : length r₇ ≡ length r
-  size₇ = length-stored _ r₆ 64 ∙ size₆ ∙ sym size
+  size₇ = length-after _ r₆ 64 ∙ size₆ ∙ sym size
 
   -- bytes below a field are as the fields before it left them
   below₄₈ : (k : ℕ) → k < 48 → byte r₇ k ≡ byte r₅ k
-  below₄₈ k l = stored-before _ r₆ 64 k (omega arith) ∙ stored-before _ r₅ 48 k l
+  below₄₈ k l = laid-before _ r₆ 64 k (omega arith) ∙ laid-before _ r₅ 48 k l
 
   below₁₆ : (k : ℕ) → k < 16 → byte r₇ k ≡ byte r₄ k
-  below₁₆ k l = below₄₈ k (omega arith) ∙ stored-before _ r₄ 16 k l
+  below₁₆ k l = below₄₈ k (omega arith) ∙ laid-before _ r₄ 16 k l
 
   below₈ : (k : ℕ) → k < 8 → byte r₇ k ≡ byte r₂ k
-  below₈ k l = below₁₆ k (omega arith) ∙ stored-before _ r₃ 10 k (omega arith) ∙ stored-before _ r₂ 8 k l
+  below₈ k l = below₁₆ k (omega arith) ∙ laid-before _ r₃ 10 k (omega arith) ∙ laid-before _ r₂ 8 k l
 
   outside : (k : ℕ) → Other k → byte r₇ k ≡ byte r k
   outside k o =
@@ -152,37 +152,37 @@ module _ (image acs r : List ℕ) (size : length r ≡ recordSize) where
       let n : length (bytesFrom 32 acs 8) ≡ 32 = length-bytes 32 acs 8 in
       let c : length (bytesFrom 2 acs 4) ≡ 2 = length-bytes 2 acs 4 in
       let d : length (bytesFrom 2 acs 6) ≡ 2 = length-bytes 2 acs 6 in
-      stored-outside _ r₆ 64 k (λ a b. o .not-high (omega arith) (omega arith))
-      ∙ stored-outside _ r₅ 48 k (λ a b. o .not-high (omega arith) (omega arith))
-      ∙ stored-outside _ r₄ 16 k (λ a b. o .not-high (omega arith) (omega arith))
-      ∙ stored-outside _ r₃ 10 k (λ a b. o .not-low (omega arith) (omega arith))
-      ∙ stored-outside _ r₂ 8 k (λ a b. o .not-low (omega arith) (omega arith))
-      ∙ stored-outside _ r₁ 6 k (λ a b. o .not-low (omega arith) (omega arith))
-      ∙ stored-outside _ r 4 k (λ a b. o .not-own (omega arith))
+      laid-outside _ r₆ 64 k (λ a b. o .not-high (omega arith) (omega arith))
+      ∙ laid-outside _ r₅ 48 k (λ a b. o .not-high (omega arith) (omega arith))
+      ∙ laid-outside _ r₄ 16 k (λ a b. o .not-high (omega arith) (omega arith))
+      ∙ laid-outside _ r₃ 10 k (λ a b. o .not-low (omega arith) (omega arith))
+      ∙ laid-outside _ r₂ 8 k (λ a b. o .not-low (omega arith) (omega arith))
+      ∙ laid-outside _ r₁ 6 k (λ a b. o .not-low (omega arith) (omega arith))
+      ∙ laid-outside _ r 4 k (λ a b. o .not-own (omega arith))
 
-  in-bytes : (n from : ℕ) (b : List ℕ) (i k : ℕ) → from + n ≤ length b → k < n → byte (stored b from (bytesFrom n acs i)) (from + k) ≡ byte acs (i + k)
+  in-bytes : (n from : ℕ) (b : List ℕ) (i k : ℕ) → from + n ≤ length b → k < n → byte (laid b from (bytesFrom n acs i)) (from + k) ≡ byte acs (i + k)
   in-bytes n from b i k room l =
       let e : length (bytesFrom n acs i) ≡ n = length-bytes n acs i in
-      stored-at (bytesFrom n acs i) b from k (omega arith) (omega arith) ∙ bytes-at n acs i k l
+      laid-at (bytesFrom n acs i) b from k (omega arith) (omega arith) ∙ bytes-at n acs i k l
 
   in-range : (w : Range) (from : ℕ) (b : List ℕ) (k : ℕ) → from + 16 ≤ length b → k < 16
-      → byte (stored b from (rangeBytes w)) (from + k) ≡ byte (rangeBytes w) k
+      → byte (laid b from (rangeBytes w)) (from + k) ≡ byte (rangeBytes w) k
   in-range w from b k room l =
-      let e : length (rangeBytes w) ≡ 16 = length-range w in stored-at (rangeBytes w) b from k (omega arith) (omega arith)
+      let e : length (rangeBytes w) ≡ 16 = length-range w in laid-at (rangeBytes w) b from k (omega arith) (omega arith)
 
   pub byte-by-byte : ByteByByte image acs r (fillAll (filledFields image acs) r)
   byte-by-byte =
       record {
         size = size₇;
-        own = below₈ 4 (omega arith) ∙ stored-before _ r₁ 6 4 (omega arith) ∙ stored-at _ r 4 0 (omega (arith, size)) (omega arith);
-        secondary = below₈ 6 (omega arith) ∙ stored-at _ r₁ 6 0 (omega (arith, size₁)) (omega arith);
-        subordinate = below₈ 7 (omega arith) ∙ stored-at _ r₁ 6 1 (omega (arith, size₁)) (omega arith);
+        own = below₈ 4 (omega arith) ∙ laid-before _ r₁ 6 4 (omega arith) ∙ laid-at _ r 4 0 (omega (arith, size)) (omega arith);
+        secondary = below₈ 6 (omega arith) ∙ laid-at _ r₁ 6 0 (omega (arith, size₁)) (omega arith);
+        subordinate = below₈ 7 (omega arith) ∙ laid-at _ r₁ 6 1 (omega (arith, size₁)) (omega arith);
         capability = λ k l.
-            below₁₆ (8 + k) (omega arith) ∙ stored-before _ r₃ 10 (8 + k) (omega arith) ∙ in-bytes 2 8 r₂ 4 k (omega (arith, size₂)) l;
+            below₁₆ (8 + k) (omega arith) ∙ laid-before _ r₃ 10 (8 + k) (omega arith) ∙ in-bytes 2 8 r₂ 4 k (omega (arith, size₂)) l;
         control = λ k l. below₁₆ (10 + k) (omega arith) ∙ in-bytes 2 10 r₃ 6 k (omega (arith, size₃)) l;
         vector = λ k l. below₄₈ (16 + k) (omega arith) ∙ in-bytes 32 16 r₄ 8 k (omega (arith, size₄)) l;
         memory = λ k l.
-            stored-before _ r₆ 64 (48 + k) (omega arith) ∙ in-range (memoryWindow image) 48 r₅ k (omega (arith, size₅)) l;
+            laid-before _ r₆ 64 (48 + k) (omega arith) ∙ in-range (memoryWindow image) 48 r₅ k (omega (arith, size₅)) l;
         prefetchable = λ k l. in-range (prefetchableWindow image) 64 r₆ k (omega (arith, size₆)) l;
         others = λ k h. outside k (other k h);
       }

@@ -2,14 +2,13 @@
 use mathlib.Core.Path.{_≡_}
 use mathlib.Core.Bool.{Bool, true, false, _&&_, _||_, not}
 use mathlib.Core.List.{List, [], _∷_, _++_}
-use Prim.Native.Nat.{ℕ, zero, suc, _+_, _/_, _%_, _<_}
+use Prim.Native.Nat.{ℕ, _+_, _<_}
 use lib.Dec.{eqb}
 use lib.ListN.{length}
-use lib.Seq.{sets}
 use Rattle.rules.specs.declared.Range.{Range}
 use Rattle.rules.specs.declared.Structure.{Structure}
 use Rattle.rules.specs.declared.Structure.the-variants.{Stands, Absent, Bad}
-use Rattle.rules.specs.Bytes.{byte, within}
+use Rattle.rules.specs.Bytes.{byte, leBytes, bytesFrom, laid, within}
 use Rattle.rules.specs.Snapshot.{base}
 use Rattle.rules.specs.Image.{imageSize, primaryBus, secondaryBus, subordinateBus, memoryWindow, prefetchableWindow}
 use Rattle.rules.specs.Image.{acsStructure, partOf}
@@ -19,22 +18,8 @@ use Rattle.rules.specs.Refuse.{Result, refused, answered, unless, throug
 abbrev pub recordSize : ℕ
 recordSize = 144
 
--- n bytes from i on; past the end they are 0
-unfoldable pub bytesFrom : ℕ → List ℕ → ℕ → List ℕ
-bytesFrom zero b i = []
-bytesFrom (suc n) b i = byte b i ∷ bytesFrom n b (i + 1)
-
--- a number in n bytes, little-endian
-unfoldable pub leBytes : ℕ → ℕ → List ℕ
-leBytes zero x = []
-leBytes (suc n) x = x % 256 ∷ leBytes n (x / 256)
-
 unfoldable pub rangeBytes : Range → List ℕ
 rangeBytes r = leBytes 8 (r .first) ++ leBytes 8 (r .last)
-
--- a record with these bytes from one of its bytes on, and the others as they were
-unfoldable pub stored : List ℕ → ℕ → List ℕ → List ℕ
-stored r from bytes = sets r from bytes
 
 -- the bytes that are written from a byte of the record on
 pub record Field : Type 0 where
@@ -60,7 +45,7 @@ filledFields image acs =
 -- "Other record bytes stay"
 abbrev pub fillAll : List Field → List ℕ → List ℕ
 fillAll [] r = r
-fillAll (x ∷ l) r = fillAll l (stored r (x .from) (x .bytes))
+fillAll (x ∷ l) r = fillAll l (laid r (x .from) (x .bytes))
 
 unfoldable pub filled : List ℕ → List ℕ → List ℕ
 filled image r = fillAll (filledFields image (partOf image (acsStructure image))) r

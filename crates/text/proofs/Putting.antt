@@ -6,8 +6,8 @@ use native.Mathlib.Numerals.{add-one}
 use native.Mathlib.Omega.{arith}
 use lib.ListN.{length, take, drop, set, getD, length-append, take-append-drop}
 use lib.Seq.{set-split, take-suc, take-all, length-take-le}
-use Rattle.numbers.specs.Laid.{laid}
-use Rattle.numbers.proofs.Laid.{length-laid, laid-none, laid-both}
+use Rattle.rules.specs.Bytes.{laid}
+use Rattle.numbers.proofs.Laid.{laid-split, length-laid, laid-none, laid-both}
 use Rattle.text.specs.Put.{Put}
 
 pub put-none : (b : List ℕ) (at : ℕ) → Put 0 b at [] at b
@@ -54,7 +54,7 @@ module _ {m n : ℕ} {b : List ℕ} {at : ℕ} {x y : List ℕ} {mid next : ℕ}
             let a : mid ≡ at + length x = p .moves (first-room l) in
             let c : next ≡ mid + length y = q .moves (next-room l) in
             omega arith;
-        bytes = λ l. q .bytes (next-room l) ∙ rw (p .moves (first-room l), p .bytes (first-room l)) (laid-both b at x y (both-room l));
+        bytes = λ l. q .bytes (next-room l) ∙ rw (p .moves (first-room l), p .bytes (first-room l)) (laid-both x y b at);
       }
 
 -- three texts, and four
@@ -84,8 +84,8 @@ module _ {m : ℕ} {b : List ℕ} {x : List ℕ} {next : ℕ} {after : List ℕ}
   within = let e = moved in let k = p .kept in let s = p .short in omega arith
 
   laid-whole : after ≡ x ++ drop (length x) b
-  unfolding laid
-  laid-whole = let e : 0 + length x ≡ length x = omega arith in p .bytes room ∙ ap (λ (n : ℕ). x ++ drop n b) e
+  laid-whole =
+      let e : 0 + length x ≡ length x = omega arith in p .bytes room ∙ laid-split b 0 x room ∙ ap (λ (n : ℕ). x ++ drop n b) e
 
   pub whole-text : (next ≡ length x) × ((after ≡ x ++ drop (length x) b) × ((next ≤ length after) × (next ≡ length (take next after))))
   whole-text = (moved, (laid-whole, (within, sym (length-take-le next after within))))

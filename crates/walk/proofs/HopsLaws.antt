@@ -8,7 +8,7 @@ use lib.ListN.{length, take, drop, take-append-drop}
 use borrow.Author.Tests.{lt-ltb, le-ltb, ltb-true}
 use Rattle.rules.proofs.Logic.{either}
 use Rattle.rules.specs.Route.{Hop, hopBytes}
-use Rattle.numbers.specs.Laid.{laid}
+use Rattle.rules.specs.Bytes.{laid}
 use Rattle.numbers.proofs.Laid.{length-laid, take-laid, drop-laid}
 use Rattle.walk.specs.Hops.{putAt, puts}
 

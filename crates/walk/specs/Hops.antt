@@ -5,7 +5,7 @@ use Prim.Native.Nat.{ℕ, _+_, _*_, _/_}
 use lib.Dec.{ltb}
 use lib.ListN.{length}
 use Rattle.rules.specs.Route.{Hop, hopBytes}
-use Rattle.numbers.specs.Laid.{laid}
+use Rattle.rules.specs.Bytes.{laid}
 
 -- b with hop number k, where there is room for it
 unfoldable pub putAt : List ℕ → ℕ → Hop → List ℕ

@@ -16,6 +16,7 @@ structure-at-spec =
     (λ c κs. search needs)
     (λ c κs. search needs)
     (λ c. search needs)
+    (λ c. search needs)
     (λ c. search (stands, arith))
     (λ c. search (runs-past, arith))
-    (λ c. other-version _ _ (search needs) (search needs) (c .if2 .left)))
+    (λ c. other-version _ _ (search needs) (c .if2 .left)))
