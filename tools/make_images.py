@@ -8,10 +8,10 @@ The same bytes come out on every run and every machine. Each is 4,096 bytes of
 zeros but for those that are named here, save where its point is another length.
 """
 
-import argparse
-import pathlib
 import struct
 import sys
+
+from samples import write
 
 SIZE = 4096
 
@@ -120,27 +120,5 @@ def samples():
     }
 
 
-def main():
-    default = pathlib.Path(__file__).resolve().parent.parent / "examples" / "images"
-    parser = argparse.ArgumentParser(description="Write the sample configuration spaces.")
-    parser.add_argument("folder", nargs="?", type=pathlib.Path, default=default)
-    parser.add_argument("--check", action="store_true", help="compare, and write nothing")
-    args = parser.parse_args()
-    wanted = samples()
-    if args.check:
-        wrong = [name for name, data in wanted.items()
-                 if not (args.folder / name).is_file()
-                 or (args.folder / name).read_bytes() != data]
-        for name in wrong:
-            print(f"{name} differs from what the script makes", file=sys.stderr)
-        print(f"{len(wanted) - len(wrong)} of {len(wanted)} images are as made")
-        return 1 if wrong else 0
-    args.folder.mkdir(parents=True, exist_ok=True)
-    for name, data in wanted.items():
-        (args.folder / name).write_bytes(data)
-        print(f"{name}: {len(data)} bytes")
-    return 0
-
-
 if __name__ == "__main__":
-    sys.exit(main())
+    sys.exit(write("configuration spaces", "images", samples()))
