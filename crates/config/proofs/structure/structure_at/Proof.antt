@@ -1,5 +1,7 @@
 -- `config::structure::structure_at` meets its contract, exit by exit.
+use Prim.Native.Nat.{_+_, _≤_, _<_}
 use native.Mathlib.Omega.{arith}
+use lib.ListN.{length}
 use borrow.Author.Needs.{needs}
 use Rattle.config.proofs.StructureLaws.{no-capability, stands, runs-past, other-version}
 use Rattle.config.proofs.structure.structure_at.Statement.{statement}
@@ -17,6 +19,10 @@ structure-at-spec =
     (λ c κs. search needs)
     (λ c. search needs)
     (λ c. search needs)
-    (λ c. search (stands, arith))
-    (λ c. search (runs-past, arith))
+    (λ c.
+    let a = c .before .before .before .before .before .before .before .args in
+    let l : a .at + c .before .before .before .structure-length .result ≤ length (a .image .now) = omega arith in search stands)
+    (λ c.
+    let a = c .before .before .before .before .before .before .before .args in
+    let l : length (a .image .now) < a .at + c .before .before .before .structure-length .result = omega arith in search runs-past)
     (λ c. other-version _ _ (search needs) (c .if2 .left)))
