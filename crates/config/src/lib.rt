@@ -2,7 +2,8 @@
 // what they give.
 mod buses;
 pub mod fill;
-mod list;
+mod header;
+pub mod list;
 mod record;
-mod structure;
+pub mod structure;
 mod windows;

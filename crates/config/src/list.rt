@@ -1,39 +1,15 @@
 // The list of extended capabilities, and the first ACS structure in it.
+use crate::header::is_acs;
+use crate::header::next_offset;
 use crate::structure::structure_at;
-use numbers::le_u16;
 use rules::Structure;
 ghost use mathlib.Core.Path.{_≡_};
-ghost use Prim.Native.Nat.{_+_, _≤_, _<_};
 ghost use lib.ListN.{length};
 ghost use Rattle.rules.specs.Image as rule;
 ghost use Rattle.config.specs.Chain.{offList};
 
 // Where the list starts.
 const LIST_START: u16 = 0x100;
-
-// The header at this offset is one of ACS.
-fn is_acs(image: &[u8], at: u16) -> bool
-    requires { ⌜ (length (now image) ≡ rule.imageSize) × (at + 4 ≤ rule.imageSize) ⌝ }
-    ensures { λ r. ⌜ r ≡ rule.isAcs (now (image .entry)) at ⌝ }
-{
-    le_u16(image, at as usize) == 0x000D
-}
-
-// The version in the header at this offset.
-pub fn version(image: &[u8], at: u16) -> u16
-    requires { ⌜ (length (now image) ≡ rule.imageSize) × (at + 4 ≤ rule.imageSize) ⌝ }
-    ensures { λ r. ⌜ r ≡ rule.capabilityVersion (now (image .entry)) at ⌝ }
-{
-    le_u16(image, at as usize + 2) % 16
-}
-
-// The next offset in the header at this one.
-fn next_offset(image: &[u8], at: u16) -> u16
-    requires { ⌜ (length (now image) ≡ rule.imageSize) × (at + 4 ≤ rule.imageSize) ⌝ }
-    ensures { λ r. ⌜ (r ≡ rule.nextOffset (now (image .entry)) at) × (r < rule.imageSize) ⌝ }
-{
-    le_u16(image, at as usize + 2) / 16
-}
 
 // A multiple of 4 from the list's start on.
 fn is_offset(at: u16) -> bool

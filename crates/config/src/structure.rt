@@ -1,5 +1,5 @@
 // The ACS structure: how long it is, and which part of the image.
-use crate::list::version;
+use crate::header::version;
 use layout::acs::Acs;
 use numbers::le_u16;
 use rules::Structure;
