@@ -151,7 +151,7 @@ static void print_bad_list(int silent)
         printf("%s.\n", acs_refusal_text(ACS_REFUSAL_CAPABILITIES));
     else
         printf("the list of extended capabilities is bad, in one of these ways: an offset that "
-               "cannot be (neither 0 nor a multiple of 4 from 100h), an offset that comes back, an "
+               "cannot be (below 100h and not 0, or no multiple of 4), an offset that comes back, an "
                "ACS structure of another version than 1, or one that runs past the end. Read it "
                "again; if it stays so, no record can be filled from this device.\n");
 }

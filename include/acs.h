@@ -8,7 +8,7 @@
  * answers, words for people and writers for TLP headers, all inline.
  *
  * docs/INTERFACE.md has the layouts and the calls in full, docs/RULES.md every
- * rule by which a snapshot is accepted and a TLP is routed, with its number;
+ * rule by which a snapshot is accepted, a TLP is routed and a record is filled;
  * acs(3) is the manual page. `make install` installs all three, the pages in
  * share/doc/acs.
  *
@@ -255,7 +255,8 @@ static inline unsigned acs_fill_offset(uint64_t answer)
     return (unsigned)(answer >> 16 & 0xFFFFu);
 }
 
-/* Bytes 4-5: how many bytes it has, its vector with it; 0 where there is none. */
+/* Bytes 4-5: how many bytes it has, its vector with it; 0 where there is none.
+   Of the answer of acs_fill only, and not of a refusal. */
 static inline unsigned acs_fill_length(uint64_t answer)
 {
     return (unsigned)(answer >> 32 & 0xFFFFu);

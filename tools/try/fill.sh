@@ -139,7 +139,7 @@ rewrite "$rootport" acs-at-the-end 0x102 '\301\377'
 rewrite "$folder/acs-at-the-end" last-doubleword 0xFFC '\015\000\001\000'
 for file in "$images/bad-offset.config" "$images/comes-back.config" "$images/acs-version-2.config" \
     "$images/past-the-end.config" "$folder/odd-offset" "$folder/to-itself" "$folder/last-doubleword"; do
-    fills 1 'Refused (9): the list of extended capabilities is bad, in one of these ways: an offset that cannot be (neither 0 nor a multiple of 4 from 100h), an offset that comes back, an ACS structure of another version than 1, or one that runs past the end.' \
+    fills 1 'Refused (9): the list of extended capabilities is bad, in one of these ways: an offset that cannot be (below 100h and not 0, or no multiple of 4), an offset that comes back, an ACS structure of another version than 1, or one that runs past the end.' \
         "$file"
     fills 1 'Nothing was filled.' "$file"
     lacks 'own bus' fill "$file"

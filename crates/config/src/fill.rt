@@ -15,7 +15,7 @@ const IMAGE: usize = 4096;
 
 const RECORD: usize = 144;
 
-// The list is well made, whether it has an ACS structure or not.
+// Neither the list nor an ACS structure in it is bad.
 fn is_sound(acs: Structure) -> bool
     ensures { λ r. ⌜ r ≡ isSound acs ⌝ }
 {

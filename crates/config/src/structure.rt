@@ -8,7 +8,7 @@ ghost use Prim.Native.Nat.{_+_, _≤_};
 ghost use lib.ListN.{length};
 ghost use Rattle.rules.specs.Image as rule;
 
-// Header and registers, and with E the vector in whole doublewords.
+// Header and registers take 8 bytes; where the Capability has E, 4 more for each 32 bits of the vector.
 fn structure_length(capability: Acs) -> u16
     ensures { λ r. ⌜ r ≡ rule.structureLength (capability .0) ⌝ }
     ensures { λ r. ⌜ r ≤ 40 ⌝ }

@@ -41,13 +41,15 @@ header id version next = leBytes 2 id ++ leBytes 2 (version + 16 * next)
 abbrev pub other : ℕ → ℕ → Field
 other at next = field at (header 0x0001 1 next)
 
--- an ACS structure, with Capability and Control, and 32 bytes EEh behind it
+-- Capability and Control
 abbrev pub registers : ℕ → ℕ → List ℕ
 registers capability control = leBytes 2 capability ++ leBytes 2 control
 
+-- an ACS structure of version 1, with 32 bytes EEh behind its registers
 abbrev pub acs : ℕ → ℕ → Field
 acs at capability = field at (header 0x000D 1 0 ++ registers capability 0x001D ++ replicate 32 0xEE)
 
+-- one of this version, with nothing behind them
 abbrev pub short : ℕ → ℕ → ℕ → Field
 short at version capability = field at (header 0x000D version 0 ++ registers capability 0x001D)
 
@@ -118,7 +120,8 @@ lists =
     ∷ bad (short 0x100 2 0x005F ∷ [])  -- version 2
     ∷ bad (short 0x100 0 0x005F ∷ [])  -- version 0
     ∷ listed (field 0x100 (header 0x000D 1 0xFFF ++ registers 0x005F 0) ∷ []) 0x100 8 0x005F 0 0  -- its own next offset isn't looked at
-    ∷ listed (other 0x100 0x200 ∷ acs 0x200 0x0020 ∷ acs 0x300 0x007F ∷ []) 0x200 40 0x0020 0x001D 32  -- the first of two
+    ∷ listed (other 0x100 0x200 ∷ field 0x200 (header 0x000D 1 0x300 ++ registers 0x005F 0x0011) ∷ acs 0x300 0x007F ∷ [])
+    0x200 8 0x005F 0x0011 0  -- the first of two, which leads on to the second
     ∷ []
 
 -- refusals 9 for a next offset

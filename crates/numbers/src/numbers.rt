@@ -1,4 +1,4 @@
-// Numbers in bytes, and runs of zero bytes.
+// Numbers in bytes, read and written; bytes copied, and runs of zero bytes.
 ghost use mathlib.Core.Path.{_≡_};
 ghost use Prim.Native.Nat.{_+_, _^_, _≤_, _<_};
 ghost use lib.ListN.{length};

@@ -62,7 +62,7 @@ capabilityVersion image at = le 2 image (at + 2) % 16
 abbrev pub nextOffset : List ℕ → ℕ → ℕ
 nextOffset image at = le 2 image (at + 2) / 16
 
--- "ACS has ID 000Dh and version 1"
+-- "ACS has ID 000Dh and version 1": the version is looked at below, in structureAt
 abbrev pub isAcs : List ℕ → ℕ → Bool
 isAcs image at = eqb (capabilityId image at) 0x000D
 
@@ -91,8 +91,8 @@ isAmong at [] = false
 isAmong at (x ∷ l) = eqb at x || isAmong at l
 
 -- The walk from an offset on; `visited` has the offsets at which a header was read. 0 ends the list. 9: "a next offset neither 0
--- nor a multiple of 4 from 100h, or already visited". "The walk stops at the first ACS". It takes a step less at each header:
--- where none is left, an offset was visited twice.
+-- nor a multiple of 4 from 100h, or already visited". "The walk stops at the first ACS". There is a step less at each header; that
+-- none is left never comes up with the steps below (theorem enough-steps).
 unfoldable pub follow : List ℕ → ℕ → List ℕ → ℕ → Structure
 follow image zero visited at = Bad
 follow image (suc steps) visited at =

@@ -21,13 +21,13 @@ use Rattle.rules.specs.Refuse.{Result, refused, answered}
 use Rattle.rules.specs.Fill.{Extent, extent}
 
 pub record Fields : Type 0 where
-  -- 0 delivered unvalidated, 1 delivered checked, 2 host, 3 unclaimed, 4 undefined, 5 violation, 6 refused
+  -- 0 delivered unvalidated, 1 delivered checked, 2 host, 3 unclaimed, 4 undefined, 5 violation, 6 refused; of a fill 0
   pub kind : ℕ
   -- the refusal number, or the violation letter (V 0, B 1, E 5, X 7), else 0
   pub detail : ℕ
-  -- FFFFh for host or complex; of a refusal its index
+  -- FFFFh for host or complex; of a refusal its index; of a fill the offset of the ACS structure
   pub node : ℕ
-  -- hop count; of a refusal 0
+  -- hop count; of a refusal 0; of a fill the length of the ACS structure
   pub count : ℕ
   -- 1 for completer abort, else 0
   pub abort : ℕ
