@@ -54,7 +54,8 @@ pub fill-refused : (f : Fill) (why : Refusal) (i : ℕ) {d w : ℕ} → f ≡ fi
     → w ≡ wordOfFill f
 fill-refused f why i e hd h = h ∙ rw (e, hd)
 
-pub fill-filled : (f : Fill) (offset length : ℕ) {w : ℕ} → f ≡ fill.Filled offset length → w ≡ wordOf (fields 0 0 offset length 0) → w ≡ wordOfFill f
+pub fill-filled : (f : Fill) (offset length : ℕ) {w : ℕ} → f ≡ fill.Filled offset length → w ≡ wordOf (fields 0 0 offset length 0)
+    → w ≡ wordOfFill f
 fill-filled f offset length e h = h ∙ rw e
 
 pub check-says : (s : List ℕ) (now : ℕ) (c : Check) {w : ℕ} → verdictOf c ≡ verdict s now → w ≡ wordOfCheck c → Judged s now w
@@ -65,6 +66,6 @@ pub route-says : (s : List ℕ) (now o : ℕ) (h b : List ℕ) (a : Answer) {w :
     → Routed s now o h b w b₁
 route-says s now o h b a is left e = record { says = e ∙ ap wordOf is; leaves = left }
 
-pub fill-says : (image r : List ℕ) (f : Fill) {w : ℕ} {after : List ℕ} → fillOf f ≡ filling image r → after ≡ recordAfter (filling image r) image r
-    → w ≡ wordOfFill f → Filled image r w after
+pub fill-says : (image r : List ℕ) (f : Fill) {w : ℕ} {after : List ℕ} → fillOf f ≡ filling image r
+    → after ≡ recordAfter (filling image r) image r → w ≡ wordOfFill f → Filled image r w after
 fill-says image r f is left e = record { says = e ∙ ap (λ x. wordOf (fillFields x)) is; leaves = left }

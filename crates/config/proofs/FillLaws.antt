@@ -34,7 +34,8 @@ pub record Done (image r : List ℕ) (f : Fill) (after : List ℕ) : Type 0 wher
   pub says : fillOf f ≡ filling image r
   pub leaves : after ≡ recordAfter (filling image r) image r
 
-pub told : {image r after : List ℕ} {f : Fill} → Done image r f after → (fillOf f ≡ filling image r) × (after ≡ recordAfter (filling image r) image r)
+pub told : {image r after : List ℕ} {f : Fill} → Done image r f after
+    → (fillOf f ≡ filling image r) × (after ≡ recordAfter (filling image r) image r)
 told d = (d .says, d .leaves)
 
 wrong-size : (image r : List ℕ) → wholeSizes image r ≡ false → Done image r (Refused Length 0) r

@@ -60,7 +60,8 @@ back image (x ∷ v) at p (q, h) =
     (λ r. back image v at r h)
 
 -- the two walks come to the same
-same-walk : (image : List ℕ) (steps : ℕ) (visited : List ℕ) (at : ℕ) → AllLead image visited at → follow image steps visited at ≡ chain image steps at
+same-walk : (image : List ℕ) (steps : ℕ) (visited : List ℕ) (at : ℕ) → AllLead image visited at
+    → follow image steps visited at ≡ chain image steps at
 unfolding follow chain offList
 same-walk image zero visited at h = refl
 same-walk image (suc steps) visited at h =
@@ -93,7 +94,8 @@ module _ {image : List ℕ} {at counter : ℕ} (w : Walking image at counter) wh
       let m : suc (enoughSteps - (counter + 1)) ≡ enoughSteps - counter = omega arith in
       ap (λ (n : ℕ). chain image n at) m ∙ w .owes
 
-  pub leaves-list : {r : Structure} {o : Bool} {bound : ℕ} → counter < bound → bound ≤ enoughSteps → o ≡ isOffset at → o ≡ false → r ≡ offList at → r ≡ acsStructure image
+  pub leaves-list : {r : Structure} {o : Bool} {bound : ℕ} → counter < bound → bound ≤ enoughSteps → o ≡ isOffset at → o ≡ false
+      → r ≡ offList at → r ≡ acsStructure image
   unfolding chain
   leaves-list l few h q e = e ∙ sym (rw (sym h ∙ q)) ∙ turn l few
 

@@ -41,8 +41,8 @@ module _ (image : List ℕ) (at : ℕ) where
   unfolding structureAt
   other-version e f = rw (ne-eqb (capabilityVersion image at) 1 (λ w. f (e ∙ w)))
 
-  pub stands : {c n v : ℕ} → c ≡ le 2 image (at + 4) → n ≡ structureLength c → v ≡ capabilityVersion image at → v ≡ 1 → at + n ≤ length image
-      → Stands at n ≡ structureAt image at
+  pub stands : {c n v : ℕ} → c ≡ le 2 image (at + 4) → n ≡ structureLength c → v ≡ capabilityVersion image at → v ≡ 1
+      → at + n ≤ length image → Stands at n ≡ structureAt image at
   unfolding structureAt
   stands {n = n} h e f g l =
       rw (eq-eqb (capabilityVersion image at) 1 (sym f ∙ g), sym h, sym e, le-leb (at + n) (length image) (omega arith))

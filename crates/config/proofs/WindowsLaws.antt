@@ -29,8 +29,8 @@ module _ (image : List ℕ) where
   unfolding upperHalf
   upper at e z h = h ∙ rw (ne-eqb (le 2 image 0x24 % 16) 0 (λ w. z (rw e w)))
 
-  pub is-prefetchable-window : {a b low high u v base limit : ℕ} {r : Range} → a ≡ le 2 image 0x24 → low ≡ baseAddress a → u ≡ upperHalf image 0x28
-      → base ≡ low + 2 ^ 32 * u → b ≡ le 2 image 0x26 → high ≡ limitAddress b → v ≡ upperHalf image 0x2C → limit ≡ high + 2 ^ 32 * v
-      → r ≡ window base limit → r ≡ prefetchableWindow image
+  pub is-prefetchable-window : {a b low high u v base limit : ℕ} {r : Range} → a ≡ le 2 image 0x24 → low ≡ baseAddress a
+      → u ≡ upperHalf image 0x28 → base ≡ low + 2 ^ 32 * u → b ≡ le 2 image 0x26 → high ≡ limitAddress b
+      → v ≡ upperHalf image 0x2C → limit ≡ high + 2 ^ 32 * v → r ≡ window base limit → r ≡ prefetchableWindow image
   unfolding prefetchableWindow
   is-prefetchable-window ha hlow hu hbase hb hhigh hv hlimit h = h ∙ rw (hbase, hlow, ha, hu, hlimit, hhigh, hb, hv)

@@ -10,9 +10,9 @@ ghost use mathlib.Core.Path.{_≡_};
 ghost use mathlib.Core.List.{[], _∷_};
 ghost use Prim.Native.Nat.{_+_, _≤_};
 ghost use lib.ListN.{length};
-ghost use Rattle.rules.specs.Bytes.{bytesFrom, laid};
+ghost use Rattle.rules.specs.Bytes.{laid};
 ghost use Rattle.rules.specs.Image.{imageSize};
-ghost use Rattle.rules.specs.Fill.{recordSize, rangeBytes, fillAll, filledFields};
+ghost use Rattle.rules.specs.Fill.{recordSize, rangeBytes, acsFields, fillAll, filledFields};
 
 // Own bus, secondary and subordinate.
 fn put_buses(into: &mut [u8], b: Buses)
@@ -27,7 +27,7 @@ fn put_buses(into: &mut [u8], b: Buses)
 // Capability, Control and the vector of an ACS structure; where a byte is not in it, 0.
 fn put_acs(into: &mut [u8], acs: &[u8])
     requires { ⌜ length (now into) ≡ recordSize ⌝ }
-    ensures { λ _. ⌜ now (into .exit) ≡ laid (laid (laid (now (into .entry)) 8 (bytesFrom 2 (now (acs .entry)) 4)) 10 (bytesFrom 2 (now (acs .entry)) 6)) 16 (bytesFrom 32 (now (acs .entry)) 8) ⌝ }
+    ensures { λ _. ⌜ now (into .exit) ≡ fillAll (acsFields (now (acs .entry))) (now (into .entry)) ⌝ }
 {
     put_bytes(into, 8, 2, acs, 4);
     put_bytes(into, 10, 2, acs, 6);

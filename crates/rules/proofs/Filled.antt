@@ -160,7 +160,8 @@ module _ (image acs r : List ℕ) (size : length r ≡ recordSize) where
       ∙ laid-outside _ r₁ 6 k (λ a b. o .not-low (omega arith) (omega arith))
       ∙ laid-outside _ r 4 k (λ a b. o .not-own (omega arith))
 
-  in-bytes : (n from : ℕ) (b : List ℕ) (i k : ℕ) → from + n ≤ length b → k < n → byte (laid b from (bytesFrom n acs i)) (from + k) ≡ byte acs (i + k)
+  in-bytes : (n from : ℕ) (b : List ℕ) (i k : ℕ) → from + n ≤ length b → k < n
+      → byte (laid b from (bytesFrom n acs i)) (from + k) ≡ byte acs (i + k)
   in-bytes n from b i k room l =
       let e : length (bytesFrom n acs i) ≡ n = length-bytes n acs i in
       laid-at (bytesFrom n acs i) b from k (omega arith) (omega arith) ∙ bytes-at n acs i k l

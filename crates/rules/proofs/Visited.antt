@@ -65,7 +65,10 @@ lower k (y ∷ l) (v, (b, (n, h))) =
     ))
   where
     below : (z : ℕ) → z % 4 ≡ 0 → z < listStart + 4 * suc k → (listStart + 4 * k ≡ z → ⊥) → z < listStart + 4 * k
-    below z f l ne = either (leb (listStart + 4 * k) z) (λ p. absurd (ne (let q = leb-true (listStart + 4 * k) z p in omega arith))) (λ p. leb-false (listStart + 4 * k) z p)
+    below z f l ne =
+        either (leb (listStart + 4 * k) z)
+        (λ p. absurd (ne (let q = leb-true (listStart + 4 * k) z p in omega arith)))
+        (λ p. leb-false (listStart + 4 * k) z p)
 
 -- so there are no more than the bound leaves room for
 few : (k : ℕ) (l : List ℕ) → Apart (listStart + 4 * k) l → length l ≤ k

@@ -29,18 +29,17 @@ pub record Field : Type 0 where
 abbrev pub field : ℕ → List ℕ → Field
 field from bytes = record { from = from; bytes = bytes }
 
--- "fill a record's bus numbers, windows and ACS fields", of the ACS structure acs. "A list that ends without ACS gives Capability and
--- Control 0": of an empty part every byte reads 0. "Vector bytes not read are 0.": they are past the structure's end.
+-- Capability, Control and Egress Control Vector of the ACS structure acs. "A list that ends without ACS gives Capability and Control
+-- 0": of an empty part every byte reads 0. "Vector bytes not read are 0.": they are past the structure's end.
+abbrev pub acsFields : List ℕ → List Field
+acsFields acs = field 8 (bytesFrom 2 acs 4) ∷ field 10 (bytesFrom 2 acs 6) ∷ field 16 (bytesFrom 32 acs 8) ∷ []
+
+-- "fill a record's bus numbers, windows and ACS fields"
 abbrev pub filledFields : List ℕ → List ℕ → List Field
 filledFields image acs =
-    field 4 (primaryBus image ∷ [])
-    ∷ field 6 (secondaryBus image ∷ subordinateBus image ∷ [])
-    ∷ field 8 (bytesFrom 2 acs 4)  -- Capability
-    ∷ field 10 (bytesFrom 2 acs 6)  -- Control
-    ∷ field 16 (bytesFrom 32 acs 8)  -- Egress Control Vector
-    ∷ field 48 (rangeBytes (memoryWindow image))
-    ∷ field 64 (rangeBytes (prefetchableWindow image))
-    ∷ []
+    (field 4 (primaryBus image ∷ []) ∷ field 6 (secondaryBus image ∷ subordinateBus image ∷ []) ∷ [])
+    ++ acsFields acs
+    ++ (field 48 (rangeBytes (memoryWindow image)) ∷ field 64 (rangeBytes (prefetchableWindow image)) ∷ [])
 
 -- "Other record bytes stay"
 abbrev pub fillAll : List Field → List ℕ → List ℕ
