@@ -47,10 +47,14 @@ fabric flags acs number₂ number₃ =
     ++ node 4 2 3 0 0 0x80000000 0x80000FFF
     ++ node 4 3 4 0 0 0x80100000 0x80100FFF
 
+-- Fabric F's registers, with this control and this vector byte 0
+abbrev pub registersF : ℕ → ℕ → Registers
+registersF control vector = record { capability = 0x087F; control = control; vector = vector ∷ replicate 31 0 }
+
 -- Fabric F, with this control and this vector byte 0
 unfoldable pub fabricF : ℕ → ℕ → ℕ → List ℕ
 unfolding fabric
-fabricF flags control vector = fabric flags (record { capability = 0x087F; control = control; vector = vector ∷ replicate 31 0 }) 1 2
+fabricF flags control vector = fabric flags (registersF control vector) 1 2
 
 -- a request of 1 doubleword with a 12-byte header: byte 0, address type, requester's bus, address
 unfoldable pub request : ℕ → ℕ → ℕ → ℕ → List ℕ
