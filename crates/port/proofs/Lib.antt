@@ -1,2 +1,3 @@
 pub mod DecideLaws
+pub mod EgressLaws
 pub mod PassLaws

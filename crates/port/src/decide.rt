@@ -3,7 +3,7 @@ use crate::actions::AS_ADDRESSED;
 use crate::actions::DIRECT_TO_PEER;
 use crate::actions::REDIRECTED_UP;
 use crate::actions::UP_BY_U;
-use crate::table::look_up;
+use crate::egress::peer_request;
 use cover::covers;
 use cover::parent_of;
 use cover::peer_of;
@@ -104,13 +104,13 @@ fn goes_translated(s: &[u8], t: Tlp, p: u16) -> bool
     fields::control(s, p).on(Acs::T) & (t.address_type == 2)
 }
 
-// What the table says of a request from p to its peer q.
+// What the table gives for a request from p to its peer q, worked out from the registers of p.
 fn by_table(s: &[u8], p: u16, q: u16) -> Handling
     requires { ⌜ HasRecord (now s) p × HasRecord (now s) q ⌝ }
     ensures { λ r. ⌜ r ≡ byTable (shapeOf (now (s .entry))) (settingOf (now (s .entry))) p q ⌝ }
 {
     let control = fields::control(s, p);
-    look_up(
+    peer_request(
         control.on(Acs::E),
         control.on(Acs::R),
         fields::vector_bit(s, p, fields::port_number(s, q)),
