@@ -1,4 +1,6 @@
 // The C interface: check, route and fill on numbers and byte slices, each answer one word.
+#![tactic(auto)]
+
 ghost use Rattle.std.specs.Prelude.{◌≡◌, cond, ◌+◌, ◌*◌};
 ghost use Rattle.rules.specs.Word.{letter_number, end_fields, word_of, fields};
 ghost use Rattle.acs.specs.Promise.{answer_word, word_of_check, word_of_fill, Judged, Routed, Filled};

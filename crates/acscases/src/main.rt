@@ -1,5 +1,7 @@
 // Answers a stream of items on standard input: each has its length, 4 bytes, little-endian, and that
 // many bytes, a call with its arguments. It ends with the stream, or at an item that is cut off.
+#![tactic(auto)]
+
 mod items;
 mod line;
 

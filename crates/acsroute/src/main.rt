@@ -1,4 +1,6 @@
 // Answers the one query on standard input. What it prints is `report`'s text.
+#![tactic(auto)]
+
 use libc::{STDIN_FILENO, STDOUT_FILENO};
 
 // There is room for one byte more than the longest right input has: what is longer is not framed

@@ -1,5 +1,7 @@
 // A configuration space image of a bridge read: a decoder for each thing, and the record filled with
 // what they give.
+#![tactic(auto)]
+
 mod buses;
 pub mod fill;
 mod header;

@@ -1,4 +1,6 @@
 // Covering, and who is found by it.
+#![tactic(auto)]
+
 ghost use Rattle.std.specs.Prelude.{◌≡◌, false, ◌<◌};
 ghost use Rattle.rules.specs.declared.Target.TheVariants.{Address, Id};
 ghost use Rattle.rules.specs.Accepted.{Accepted};

@@ -1,5 +1,7 @@
 // Numbers in byte slices, runs of zero bytes, powers of two; the laws of bytes laid into a buffer
 // stand in proofs/Laid.antt.
+#![tactic(auto)]
+
 mod numbers;
 mod powers;
 

@@ -1,4 +1,6 @@
 // The text that `acsroute` prints for its input, byte for byte.
+#![tactic(auto)]
+
 mod frame;
 
 ghost use Rattle.std.specs.Prelude.{◌≡◌, ◌++◌, ◌+◌, ◌≤◌, length, take, drop};

@@ -1,5 +1,6 @@
 // The nouns of documents 01 and 02, by value. What they mean stands in specs/, what follows from it in
 // proofs/; no function stands here.
+#![tactic(auto)]
 
 // A Port Number is no bus number and no device number: each has a type of its own, and only a Port
 // Number reads the Egress Control Vector.

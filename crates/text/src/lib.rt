@@ -1,3 +1,5 @@
 // Words, numbers and lines put into a text.
+#![tactic(auto)]
+
 pub mod lines;
 pub mod put;

@@ -1,4 +1,6 @@
 // The TLP header: what routing asks of it, or that it is bad.
+#![tactic(auto)]
+
 ghost use Rattle.std.specs.Prelude.{◌≡◌, cond, ◌+◌, ◌≤◌, length};
 ghost use Rattle.rules.specs.Bytes.{byte, be};
 ghost use Rattle.rules.specs.Tlp.{is_read, is_write, is_request, is_completion, is_long, header_length, address_bytes, doublewords, address, crosses, target_of, tlp_of};

@@ -1,4 +1,6 @@
 // The way of a TLP through an accepted snapshot: up, down, and the hops.
+#![tactic(auto)]
+
 mod down;
 pub mod hops;
 mod up;
