@@ -6,7 +6,7 @@ ghost use Rattle.rules.specs.Snapshot.{vector_size};
 use rules::PortNumber;
 
 // A Capability or Control register, with the paper's bit numbers.
-#[derive(Drop)]
+#[derive(Clone, Copy)]
 pub struct Acs(pub u16);
 
 impl Acs {

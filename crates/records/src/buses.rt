@@ -10,7 +10,7 @@ use layout::kinds::{is_bridge, is_port};
 use rules::Bus;
 
 // The buses from the secondary to the subordinate.
-#[derive(Drop)]
+#[derive(Clone, Copy)]
 struct BusRange {
     secondary: Bus,
     subordinate: Bus,

@@ -5,7 +5,7 @@ ghost use Rattle.report.specs.Framing.{framed};
 use numbers::le_u16;
 
 // An input as long as its two lengths say, with that of its snapshot; or one that is shorter or longer.
-#[derive(Drop)]
+#[derive(Clone, Copy)]
 pub enum Frame {
     Whole(u16),
     Broken,

@@ -4,21 +4,21 @@
 
 // A Port Number is no bus number and no device number: each has a type of its own, and only a Port
 // Number reads the Egress Control Vector.
-#[derive(Drop)]
+#[derive(Clone, Copy)]
 pub struct PortNumber(pub u8);
 
-#[derive(Drop)]
+#[derive(Clone, Copy)]
 pub struct Bus(pub u8);
 
 // Where a TLP goes: a request to an address, a completion to an ID (bus, then device and function).
-#[derive(Drop)]
+#[derive(Clone, Copy)]
 pub enum Target {
     Address(u64),
     Id(Bus, u8),
 }
 
 // What routing asks of a header.
-#[derive(Drop)]
+#[derive(Clone, Copy)]
 pub struct Tlp {
     // a request, else a completion
     pub request: bool,
@@ -34,14 +34,14 @@ pub struct Tlp {
 }
 
 // What a search over the records gives.
-#[derive(Drop)]
+#[derive(Clone, Copy)]
 pub enum Found {
     At(u16),
     Nothing,
 }
 
 // What the table of E, R and the vector bit says of a request to a peer.
-#[derive(Drop)]
+#[derive(Clone, Copy)]
 pub enum Handling {
     Direct,
     Redirect,
@@ -50,7 +50,7 @@ pub enum Handling {
 
 // Which letter a violation has: V, source validation; B, translation blocking; E, egress control;
 // X, redirected request validation in the root complex.
-#[derive(Drop)]
+#[derive(Clone, Copy)]
 pub enum Letter {
     Source,
     Translation,
@@ -59,7 +59,7 @@ pub enum Letter {
 }
 
 // What a TLP comes to. A node is a record's index, and FFFFh is the root complex.
-#[derive(Drop)]
+#[derive(Clone, Copy)]
 pub enum Outcome {
     // the endpoint, and whether the delivery was checked
     Delivered(u16, bool),
@@ -71,14 +71,14 @@ pub enum Outcome {
 }
 
 // Where a TLP that goes down comes to: the endpoint it is for, or the node that nobody claims it at.
-#[derive(Drop)]
+#[derive(Clone, Copy)]
 pub enum Landing {
     Arrives(u16),
     Nobody(u16),
 }
 
 // What the port that a TLP enters going down does with it.
-#[derive(Drop)]
+#[derive(Clone, Copy)]
 pub enum Down {
     // on to this port
     Into(u16),
@@ -89,7 +89,7 @@ pub enum Down {
 }
 
 // What the port that a TLP enters going up does with it.
-#[derive(Drop)]
+#[derive(Clone, Copy)]
 pub enum Move {
     // to the port above the parent, with this action
     Up(u8),
@@ -104,7 +104,7 @@ pub enum Move {
 }
 
 // The bus numbers of a bridge.
-#[derive(Drop)]
+#[derive(Clone, Copy)]
 pub struct Buses {
     pub primary: Bus,
     pub secondary: Bus,
@@ -112,14 +112,14 @@ pub struct Buses {
 }
 
 // A range of addresses, first and last; a closed one is (1, 0).
-#[derive(Drop)]
+#[derive(Clone, Copy)]
 pub struct Range {
     pub first: u64,
     pub last: u64,
 }
 
 // Where a configuration space image has its ACS structure.
-#[derive(Drop)]
+#[derive(Clone, Copy)]
 pub enum Structure {
     // its offset and its length
     Stands(u16, u16),
@@ -130,7 +130,7 @@ pub enum Structure {
 }
 
 // Why an input is refused, in the order of the documents' numbers, 1 to 9.
-#[derive(Drop)]
+#[derive(Clone, Copy)]
 pub enum Refusal {
     Malformed,
     Version,
@@ -144,14 +144,14 @@ pub enum Refusal {
 }
 
 // What the check of a snapshot gives: it is accepted, or refused with an index.
-#[derive(Drop)]
+#[derive(Clone, Copy)]
 pub enum Check {
     Accepted,
     Refused(Refusal, u16),
 }
 
 // What a query comes to: a refusal with its index, or an outcome with its hop count.
-#[derive(Drop)]
+#[derive(Clone, Copy)]
 pub enum Answer {
     Refused(Refusal, u16),
     Ended(Outcome, u16),
@@ -159,7 +159,7 @@ pub enum Answer {
 
 // What the filling of a record comes to: a refusal with its index, or the offset and the length of the
 // ACS structure, both 0 where there is none.
-#[derive(Drop)]
+#[derive(Clone, Copy)]
 pub enum Fill {
     Refused(Refusal, u16),
     Filled(u16, u16),

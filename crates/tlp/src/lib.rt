@@ -9,7 +9,7 @@ ghost use Rattle.tlp.specs.Header.{header_read};
 use rules::{Bus, Target, Tlp};
 
 // What reading a header gives.
-#[derive(Drop)]
+#[derive(Clone, Copy)]
 pub enum Read {
     Good(Tlp),
     Bad,

@@ -9,14 +9,14 @@ pub mod way;
 use rules::{Landing, Outcome};
 
 // Where a way down comes to, and the number of the hop that would follow.
-#[derive(Drop)]
+#[derive(Clone, Copy)]
 pub struct Descent {
     pub landing: Landing,
     pub hops: usize,
 }
 
 // What a TLP comes to, and the number of the hop that would follow: its hop count, of a whole way.
-#[derive(Drop)]
+#[derive(Clone, Copy)]
 pub struct Walked {
     pub end: Outcome,
     pub hops: usize,

@@ -10,5 +10,5 @@ pub address_spec : {M : Type 1} → statement M
 unfolding address
 address_spec = tie.close (tie.spec
     (λ c. search rules) (λ c κs. search rules)
-    (λ c κs. address_room (byte c.before.before.before.args.h.now 0) c.address-bytes.ensures c.before.before.before.requires.1)
-    (λ c. search rules) (λ c. simp (c.be.ensures, c.before.address-bytes.ensures)))
+    (λ c κs. address_room (byte c.before.before.before.args.h.now 0) c.address_bytes.ensures c.before.before.before.requires.1)
+    (λ c. search rules) (λ c. simp (c.be.ensures, c.before.address_bytes.ensures)))

@@ -5,4 +5,4 @@ use Rattle.tlp.proofs.address_bytes.Tie as tie
 
 pub address_bytes_spec : {M : Type 1} → statement M
 address_bytes_spec = tie.close (tie.spec
-    (λ c κs. search rules) (λ c κs. search rules) (λ c. simp (c.choose.ensures, c.before.is-long.ensures)))
+    (λ c κs. search rules) (λ c κs. search rules) (λ c. simp (c.choose.ensures, c.before.is_long.ensures)))

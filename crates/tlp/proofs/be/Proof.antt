@@ -13,18 +13,18 @@ be_spec = tie.close (tie.spec
     (λ s at n sum₀ k₀ sum k. (k ≤ n) × (sum ≡ be k s at) × (sum < 256 ^ k))
     (λ s at n sum₀ k₀ sum k. n - k)
     (λ c. (search rules, be_none _ _, search rules))
-    (λ c. omega (arith, fits c.before.loop.k c.before.loop.sum 0 (search rules) c.before.loop.invariant.2 (search rules)))
+    (λ c. omega (arith, fits c.before.loop-k.k c.before.loop-k.sum 0 (search rules) c.before.loop-k.invariant.2 (search rules)))
     (λ c. search rules) (λ c. search rules)
-    (λ c. omega (arith, c.shared-slice-known.given (c.before.before.before.args.at + c.before.before.loop.k)))
+    (λ c. omega (arith, c.shared_slice_known-1.given (c.before.before.before.args.at + c.before.before.loop-k.k)))
     (λ c. record {
-      fits = fits c.before.before.loop.k _ _ (search rules) c.before.before.loop.invariant.2
-          (c.shared-slice-known.given (c.before.before.before.args.at + c.before.before.loop.k)).fits;
+      fits = fits c.before.before.loop-k.k _ _ (search rules) c.before.before.loop-k.invariant.2
+          (c.shared_slice_known-1.given (c.before.before.before.args.at + c.before.before.loop-k.k)).fits;
     })
     (λ c. search rules) (λ c. search rules)
     (λ c. (
       search rules,
-      be_turn _ _ _ c.before.before.loop.invariant.1,
-      room _ _ _ c.before.before.loop.invariant.2
-          (c.shared-slice-known.given (c.before.before.before.args.at + c.before.before.loop.k)).fits,
+      be_turn _ _ _ c.before.before.loop-k.invariant.1,
+      room _ _ _ c.before.before.loop-k.invariant.2
+          (c.shared_slice_known-1.given (c.before.before.before.args.at + c.before.before.loop-k.k)).fits,
     ))
-    (λ c. be_end _ _ _ _ c.before.loop.invariant.1 (search rules) (search rules)))
+    (λ c. be_end _ _ _ _ c.before.loop-k.invariant.1 (search rules) (search rules)))

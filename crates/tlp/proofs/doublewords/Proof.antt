@@ -7,5 +7,5 @@ use Rattle.tlp.proofs.doublewords.Tie as tie
 
 pub doublewords_spec : {M : Type 1} → statement M
 doublewords_spec = tie.close (tie.spec
-    (λ c. search rules) (λ c. search rules) (λ c. search rules) (λ c. search rules) (λ c. omega (arith, c.shared-slice-known2.given 3))
-    (λ c. omega (arith, c.shared-slice-known2.given 3)) (λ c. simp (eq-eqb _ _ c.if1.true)) (λ c. simp (ne_eqb _ _ c.if1.false)))
+    (λ c. search rules) (λ c. search rules) (λ c. search rules) (λ c. search rules) (λ c. omega (arith, c.shared_slice_known-2-1.given 3))
+    (λ c. omega (arith, c.shared_slice_known-2-1.given 3)) (λ c. simp (eq-eqb _ _ c.if-n-eq0.true)) (λ c. simp (ne_eqb _ _ c.if-n-eq0.false)))

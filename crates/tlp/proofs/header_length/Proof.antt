@@ -5,4 +5,4 @@ use Rattle.tlp.proofs.header_length.Tie as tie
 
 pub header_length_spec : {M : Type 1} → statement M
 header_length_spec = tie.close (tie.spec
-    (λ c κs. search rules) (λ c κs. search rules) (λ c. simp (c.choose.ensures, c.before.is-long.ensures)))
+    (λ c κs. search rules) (λ c κs. search rules) (λ c. simp (c.choose.ensures, c.before.is_long.ensures)))

@@ -9,4 +9,4 @@ unfolding tlp_of
 tlp_of_spec = tie.close (tie.spec
     (λ c. search rules) (λ c κs. search rules) (λ c κs. search rules) (λ c. search rules) (λ c. search rules) (λ c. search rules)
     (λ c κs. search rules)
-    (λ c. simp (c.target-of.ensures, c.before.before.before.before.is_read.ensures, c.before.before.before.before.before.is-request.ensures)))
+    (λ c. simp (c.target_of.ensures, c.before.before.before.before.is_read-read.ensures, c.before.before.before.before.before.is_request-request.ensures)))

@@ -20,5 +20,5 @@ is_zero_spec =
     (λ c. search rules)
     (λ c. search rules)
     (λ c. search rules)
-    (λ c. (search rules, all_turn _ _ c.before.before.loop.invariant.1 refl))
-    (λ c. all_end _ _ _ c.before.loop.invariant.1 (search rules) (search rules)))
+    (λ c. (search rules, all_turn _ _ c.before.before.loop-k.invariant.1 refl))
+    (λ c. all_end _ _ _ c.before.loop-k.invariant.1 (search rules) (search rules)))

@@ -6,4 +6,4 @@ use Rattle.layout.proofs.acs.Acs.size.Tie as tie
 
 pub size_spec : {M : Type 1} → statement M
 size_spec =
-    tie.close (tie.spec (λ c κs. search rules) (λ c. search full_size) (λ c. search no_size) (λ c. field_size _ c.if1.false))
+    tie.close (tie.spec (λ c κs. search rules) (λ c. search full_size) (λ c. search no_size) (λ c. field_size _ c.if-field-eq0.false))
