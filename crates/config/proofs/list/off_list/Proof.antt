@@ -4,4 +4,4 @@ use Rattle.config.proofs.list.off_list.Statement.{statement}
 use Rattle.config.proofs.list.off_list.Tie as tie
 
 pub off_list_spec : {M : Type 1} → statement M
-off_list_spec = tie.close (tie.spec (λ c. search list_ends) (λ c. off_list_lem c.if1.false))
+off_list_spec = tie.close (tie.spec (λ c. search list_ends) (λ c. off_list_lem c.if-at-eq0.false))

@@ -21,8 +21,8 @@ structure_at_spec =
     (λ c. search rules)
     (λ c.
     let a = c.before.before.before.before.before.before.before.args in
-    let l : a.at + c.before.before.before.structure-length.result ≤ length a.image.now = omega arith in search stands)
+    let l : a.at + c.before.before.before.structure_length-length.result ≤ length a.image.now = omega arith in search stands)
     (λ c.
     let a = c.before.before.before.before.before.before.before.args in
-    let l : length a.image.now < a.at + c.before.before.before.structure-length.result = omega arith in search runs_past)
-    (λ c. other_version _ _ (search rules) c.if2.false))
+    let l : length a.image.now < a.at + c.before.before.before.structure_length-length.result = omega arith in search runs_past)
+    (λ c. other_version _ _ (search rules) c.if-version-eq1.false))

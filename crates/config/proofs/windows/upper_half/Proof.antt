@@ -7,4 +7,4 @@ use Rattle.config.proofs.windows.upper_half.Tie as tie
 pub upper_half_spec : {M : Type 1} → statement M
 upper_half_spec =
     tie.close
-    (tie.spec (λ c κs. search rules) (λ c. search no_upper) (λ c κs. search rules) (λ c. upper _ _ (search rules) c.before.if1.false (search rules)))
+    (tie.spec (λ c κs. search rules) (λ c. search no_upper) (λ c κs. search rules) (λ c. upper _ _ (search rules) c.before.if-le_u16-eq0.false (search rules)))

@@ -9,4 +9,4 @@ overlap_spec =
     tie.close
     (tie.spec
     (λ c κs. search rules) (λ c κs. search rules) (λ c κs. search rules) (λ c κs. search rules) (λ c κs. search rules)
-    (λ c κs. search rules) (λ c. search overlaps_open) (λ c. search ends_before) (λ c. search starts_after))
+    (λ c κs. search rules) (λ c. search overlaps_open fits 10000) (λ c. search ends_before) (λ c. search starts_after))
