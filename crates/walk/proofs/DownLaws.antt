@@ -24,10 +24,6 @@ pub record Descends (s : List ℕ) (t : Tlp) (p : ℕ) (b : List ℕ) (k : ℕ) 
   pub says : r ≡ descent_from k (down (shape_of s) t p)
   pub lays : b₁ ≡ puts b k (down (shape_of s) t p).hops
 
-pub both : {s : List ℕ} {t : Tlp} {p : ℕ} {b : List ℕ} {k : ℕ} {r : Descent} {b₁ : List ℕ} → Descends s t p b k r b₁
-    → (r ≡ descent_from k (down (shape_of s) t p)) × (b₁ ≡ puts b k (down (shape_of s) t p).hops)
-both x = (x.says, x.lays)
-
 abbrev descent : Landing → ℕ → Descent
 descent l k = record { landing = l; hops = k }
 

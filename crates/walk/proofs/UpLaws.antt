@@ -42,10 +42,6 @@ pub record Tops (s : List ℕ) (t : Tlp) (checked : Bool) (b : List ℕ) (k : �
   pub says : r ≡ walked_from k (from_top (shape_of s) t checked)
   pub lays : b₁ ≡ puts b k (from_top (shape_of s) t checked).hops
 
-pub both_top : {s : List ℕ} {t : Tlp} {checked : Bool} {b : List ℕ} {k : ℕ} {r : Walked} {b₁ : List ℕ} → Tops s t checked b k r b₁
-    → (r ≡ walked_from k (from_top (shape_of s) t checked)) × (b₁ ≡ puts b k (from_top (shape_of s) t checked).hops)
-both_top x = (x.says, x.lays)
-
 module _ (s : List ℕ) (t : Tlp) {f : Found} (hf : f ≡ entry_for (shape_of s) t) where
   -- a root port that was found is a record
   pub entry_here : {q : ℕ} → f ≡ At q → q < count s
@@ -78,10 +74,6 @@ way s t p = up (shape_of s) (setting_of s) t p
 pub record ReachesUp (s : List ℕ) (t : Tlp) (p₀ : ℕ) (b₀ : List ℕ) (k₀ : ℕ) (r : Walked) (b : List ℕ) : Type 0 where
   pub says : r ≡ walked_from k₀ (way s t p₀)
   pub lays : b ≡ puts b₀ k₀ (way s t p₀).hops
-
-pub both : {s : List ℕ} {t : Tlp} {p₀ : ℕ} {b₀ : List ℕ} {k₀ : ℕ} {r : Walked} {b : List ℕ} → ReachesUp s t p₀ b₀ k₀ r b
-    → (r ≡ walked_from k₀ (way s t p₀)) × (b ≡ puts b₀ k₀ (way s t p₀).hops)
-both x = (x.says, x.lays)
 
 -- The way up from p₀ has come to the port p and to hop number k of the bytes b: what says the way from there says the whole.
 pub record Going (s : List ℕ) (t : Tlp) (p₀ : ℕ) (b₀ : List ℕ) (k₀ p : ℕ) (b : List ℕ) (k : ℕ) : Type 0 where

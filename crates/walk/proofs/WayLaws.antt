@@ -39,10 +39,6 @@ pub record Walks (s : List ℕ) (t : Tlp) (o : ℕ) (b : List ℕ) (r : Walked) 
   pub says : r ≡ walked_from 0 (route (shape_of s) (setting_of s) t o)
   pub lays : b₁ ≡ puts b 0 (route (shape_of s) (setting_of s) t o).hops
 
-pub both : {s : List ℕ} {t : Tlp} {o : ℕ} {b : List ℕ} {r : Walked} {b₁ : List ℕ} → Walks s t o b r b₁
-    → (r ≡ walked_from 0 (route (shape_of s) (setting_of s) t o)) × (b₁ ≡ puts b 0 (route (shape_of s) (setting_of s) t o).hops)
-both x = (x.says, x.lays)
-
 module _ (s : List ℕ) (t : Tlp) (o : ℕ) where
   pub walks_down : {b : List ℕ} {r : Walked} {b₁ : List ℕ} → o ≡ complex → r ≡ walked_from 0 (from_top (shape_of s) t false)
       → b₁ ≡ puts b 0 (from_top (shape_of s) t false).hops → Walks s t o b r b₁
