@@ -8,14 +8,14 @@ use Rattle.text.proofs.Putting.{put_none, word_turn, word_end}
 use Rattle.text.proofs.put.put_word.Statement.{statement}
 use Rattle.text.proofs.put.put_word.Tie as tie
 
-abbrev invariant-loop : tie.invariant-loop
-invariant-loop out₀ at word next₀ i₀ i-end out next i = (i ≤ length word) × Put i out₀ at (take i word) next out
+abbrev invariant : tie.invariant-loop-i
+invariant out₀ at word next₀ i₀ i-end out next i = (i ≤ length word) × Put i out₀ at (take i word) next out
 
-abbrev decreases-loop : tie.decreases-loop
-decreases-loop out₀ at word next₀ i₀ i-end out next i = length word - i
+abbrev decreases : tie.decreases-loop-i
+decreases out₀ at word next₀ i₀ i-end out next i = length word - i
 
 pub put_word_spec : {M : Type 1} → statement M
 put_word_spec = tie.close (tie.spec
-    invariant-loop decreases-loop (λ c. (omega arith, put_none _ _)) (λ c. search rules) (λ c κs. search rules) (λ c. search rules) (λ c. search rules)
+    invariant decreases (λ c. (omega arith, put_none _ _)) (λ c. search rules) (λ c κs. search rules) (λ c. search rules) (λ c. search rules)
     (λ c. (omega arith, search (word_turn, arith)))
     (λ c. search (word_end, arith)))
