@@ -9,6 +9,6 @@ use Rattle.report.proofs.frame.read_frame.Tie as tie
 pub read_frame_spec : {M : Type 1} → statement M
 read_frame_spec = tie.close (tie.spec
     (λ c. search framed_short) (λ c κs. search rules) (λ c. search rules) (λ c. search rules) (λ c. search framed_cut) (λ c. search rules)
-    (λ c. omega (arith, c.shared-slice-known2.given (c.before.before.le-u16.result + 12))) (λ c. search rules)
-    (λ c. omega (arith, c.shared-slice-known2.given (c.before.before.le-u16.result + 12)))
+    (λ c. omega (arith, c.shared_slice_known-2-1.given (c.before.before.le_u16-snapshot.result + 12))) (λ c. search rules)
+    (λ c. omega (arith, c.shared_slice_known-2-1.given (c.before.before.le_u16-snapshot.result + 12)))
     (λ c. search framed_whole) (λ c. search framed_off))
