@@ -1,4 +1,5 @@
-// The C interface: check, route and fill on numbers and byte slices, each answer one word.
+// The calls of the C interface: check, route and fill on numbers and byte slices, each answer one
+// word. `acs_c` exports them.
 #![tactic(auto)]
 
 ghost use Rattle.std.specs.Prelude.{◌≡◌, cond, ◌+◌, ◌*◌};
@@ -80,16 +81,14 @@ fn fill_word(f: Fill) -> u64
 }
 
 // 0 for an accepted snapshot, else the refusal word.
-#[unsafe(no_mangle)]
-pub extern "C" fn acs_check(snapshot: &[u8], time: u64) -> u64
+pub fn acs_check(snapshot: &[u8], time: u64) -> u64
     ensures { Judged snapshot.now time result }
 {
     check_word(check(snapshot, time))
 }
 
 // The answer word, with the hops from the start of `hops`; a refusal leaves every byte as it was.
-#[unsafe(no_mangle)]
-pub extern "C" fn acs_route(
+pub fn acs_route(
     snapshot: &[u8],
     time: u64,
     origin: u16,
@@ -103,8 +102,7 @@ pub extern "C" fn acs_route(
 
 // The word with the offset and the length of the ACS structure, and the record filled from the image;
 // a refusal leaves every byte of the record as it was.
-#[unsafe(no_mangle)]
-pub extern "C" fn acs_fill(image: &[u8], into: &mut [u8]) -> u64
+pub fn acs_fill(image: &[u8], into: &mut [u8]) -> u64
     ensures { Filled image.now into.old result into.new }
 {
     fill_word(fill(image, into))
