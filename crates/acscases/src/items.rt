@@ -1,7 +1,7 @@
 // An item: byte 0 the call, then its arguments; a slice is 4 bytes of length and its bytes. Of a query
 // `report`'s text is printed, of any other call the answer word and the final bytes of its buffers.
+use crate::STDOUT;
 use crate::line::put_line;
-use libc::STDOUT_FILENO;
 use numbers::{le_u32, put_bytes};
 
 // The most bytes of what an item lends.
@@ -9,14 +9,14 @@ const LENT: usize = 65536;
 
 // What is printed for an item that is not well made.
 pub fn bad() -> bool {
-    io::write_all(STDOUT_FILENO, b"input\n")
+    io::write_all(STDOUT, b"input\n")
 }
 
 // Call 0, the query of `acsroute`.
 fn query(input: &[u8]) -> bool {
     let mut text = io::buffer();
     let n = report::report(input, &mut text);
-    io::write_all(STDOUT_FILENO, &text[..n])
+    io::write_all(STDOUT, &text[..n])
 }
 
 // Call 2: the image, and the record that is filled from it.

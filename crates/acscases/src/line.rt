@@ -1,5 +1,5 @@
 // A line: the answer word in 16 hexadecimal digits, a blank, and two digits for each byte of a buffer.
-use libc::STDOUT_FILENO;
+use crate::STDOUT;
 
 // The digit of the low four bits.
 fn digit(x: u8) -> u8 {
@@ -12,7 +12,7 @@ fn digit(x: u8) -> u8 {
 
 fn put_byte(x: u8) -> bool {
     let text = [digit(x / 16), digit(x)];
-    io::write_all(STDOUT_FILENO, &text)
+    io::write_all(STDOUT, &text)
 }
 
 // The bytes of a word, the highest first.
@@ -36,9 +36,9 @@ fn put_bytes(bytes: &[u8]) -> bool {
 
 pub fn put_line(word: u64, bytes: &[u8]) -> bool {
     if put_word(word) {
-        if io::write_all(STDOUT_FILENO, b" ") {
+        if io::write_all(STDOUT, b" ") {
             if put_bytes(bytes) {
-                return io::write_all(STDOUT_FILENO, b"\n");
+                return io::write_all(STDOUT, b"\n");
             }
         }
     }

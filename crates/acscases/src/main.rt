@@ -7,14 +7,17 @@ mod line;
 
 ghost use Rattle.std.specs.Prelude.{◌≡◌, ◌≤◌, length};
 
-use libc::STDIN_FILENO;
 use numbers::le_u32;
+
+const STDIN: i32 = 0;
+
+const STDOUT: i32 = 1;
 
 // Reads n bytes to the start of `room`. Whether they were there.
 fn read_whole(n: usize, room: &mut [u8]) -> bool
     requires { n ≤ length room.old }
 {
-    let got = io::read_full(STDIN_FILENO, &mut room[..n]);
+    let got = io::read_full(STDIN, &mut room[..n]);
     got == n
 }
 
@@ -67,7 +70,7 @@ fn room() -> [u8; 131072]
 // Answers one item, and whether to go on.
 fn answer() -> bool {
     let mut prefix = [0u8; 4];
-    let got = io::read_full(STDIN_FILENO, &mut prefix);
+    let got = io::read_full(STDIN, &mut prefix);
     if got < 4 {
         return false;
     }
