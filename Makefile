@@ -1,9 +1,9 @@
 # Builds the library for C, shows it, compares it and measures it.
 # `make help` lists what there is; docs/INTERFACE.md describes the interface.
 
-# The archive: what `rt staticlib acs` writes, or another one, as in
+# The archive: a copy of what `rt lib acs_c` writes, or another one, as in
 #     make demo ACS_LIB=path/to/libacs.a
-ACS_LIB ?= target/staticlib/libacs.a
+ACS_LIB ?= build/archive/libacs.a
 
 PREFIX  ?= /usr/local
 LIBDIR  ?= $(PREFIX)/lib
@@ -78,8 +78,7 @@ help:
 	@echo 'The archive is proved and built by rt, which takes some minutes the first time. Where rt is'
 	@echo 'not at hand, name an archive that is there: make demo ACS_LIB=path/to/libacs.a'
 
-# What make builds is in build/, which git leaves alone. (target/ is rt's: rt ci
-# removes it, the archive with it.)
+# What make builds is in build/, which git leaves alone. (A crate's out/ is rt's.)
 build/.gitignore:
 	@mkdir -p build
 	@echo '*' > $@
@@ -88,12 +87,14 @@ build/.gitignore:
 
 # Only the default archive is made here; another one has to be there.
 ifeq ($(origin ACS_LIB),file)
-$(ACS_LIB): crates.txt $(shell find crates -name '*.rt' -o -name '*.antt') \
+$(ACS_LIB): crates.txt $(shell find crates -name out -prune -o \( -name '*.rt' -o -name '*.antt' \) -print) \
             | build/.gitignore
-	@echo 'rt staticlib acs: proves the library and writes $@; this takes a while'
-	@$(RT) staticlib acs > build/staticlib.log 2>&1 \
-	    || { tail -n 20 build/staticlib.log; echo 'all of it is in build/staticlib.log'; exit 1; }
-	@tail -n 1 build/staticlib.log
+	@echo 'rt lib acs_c: proves the library and writes $@; this takes a while'
+	@$(RT) lib acs_c > build/archive.log 2>&1 \
+	    || { tail -n 20 build/archive.log; echo 'all of it is in build/archive.log'; exit 1; }
+	@tail -n 1 build/archive.log
+	@install -d $(@D)
+	@install -m 644 crates/acs_c/out/libacs_c.a $@
 endif
 
 lib: $(ACS_LIB) include/acs.h | build/.gitignore

@@ -6,7 +6,7 @@ use std::path::Path;
 
 fn main() {
     let package = env::var("CARGO_MANIFEST_DIR").unwrap();
-    let folder = env::var("ACS_LIB").unwrap_or("../../target/staticlib".to_string());
+    let folder = env::var("ACS_LIB").unwrap_or("../../build/archive".to_string());
     let folder = Path::new(&package).join(folder);
     println!("cargo:rerun-if-env-changed=ACS_LIB");
     println!(

@@ -43,8 +43,8 @@ expect 0 'accepted' --exit-by-outcome "$f"
 service "$f" 4 write 80100000 --now 1 --for-acsroute > "$folder/got"
 says 0 '' cmp "$folder/wanted" "$folder/got"
 # Where acsroute is built, it has to answer as the service does.
-if [ -x target/bin/acsroute ]; then
-    feed() { service "$@" --now 2000000000 --for-acsroute | $run target/bin/acsroute; }
+if [ -x crates/acsroute/out/acsroute ]; then
+    feed() { service "$@" --now 2000000000 --for-acsroute | $run crates/acsroute/out/acsroute; }
     says 0 'delivered 5 checked 2:2 0:5 0:6 3:6 5:7' feed "$f" 4 write 80100000
     says 0 'delivered 4 unvalidated 3:4 2:6 4:7' feed "$snapshots/fabric-f-18h.acs" 5 \
         completion 03:00.0 --relaxed

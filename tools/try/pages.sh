@@ -45,8 +45,8 @@ lacks 'Later calls will stand beside these two' cat docs/INTERFACE.md
 has README.md '## Where snapshots come from'
 has README.md 'ACS_LIB='
 has README.md 'rt version'
-has README.md 'rt check acsroute'
-has README.md '--for-acsroute | target/bin/acsroute'
+has README.md 'rt run acsroute'
+has README.md '--for-acsroute | crates/acsroute/out/acsroute'
 has README.md 'minutes'
 says 0 'ACS_LIB' "$MAKE" -s help
 # What README quotes is what is printed.

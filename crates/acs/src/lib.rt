@@ -88,13 +88,7 @@ pub fn acs_check(snapshot: &[u8], time: u64) -> u64
 }
 
 // The answer word, with the hops from the start of `hops`; a refusal leaves every byte as it was.
-pub fn acs_route(
-    snapshot: &[u8],
-    time: u64,
-    origin: u16,
-    header: &[u8],
-    hops: &mut [u8],
-) -> u64
+pub fn acs_route(snapshot: &[u8], time: u64, origin: u16, header: &[u8], hops: &mut [u8]) -> u64
     ensures { Routed snapshot.now time origin header.now hops.old result hops.new }
 {
     answer_word(route(snapshot, time, origin, header, hops))

@@ -1,5 +1,5 @@
 -- Fabric F, and the cases F1 to F12 as one table.
-use Rattle.std.specs.Prelude.{true, false, List, [], ◌∷◌, ◌++◌, ℕ, zero, suc, ◌*◌, ◌/◌, ◌%◌, replicate}
+use Rattle.std.specs.Prelude.{true, false, List, [], ◌∷◌, ◌++◌, ℕ, ◌*◌, ◌/◌, ◌%◌, replicate}
 use Rattle.rules.specs.declared.Letter.TheVariants.{Source, Translation, Egress, Validation}
 use Rattle.rules.specs.declared.Outcome.TheVariants.{Delivered, Host, Unclaimed, Undefined, Violated}
 use Rattle.rules.specs.Bytes.{le_bytes}

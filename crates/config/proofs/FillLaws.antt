@@ -1,7 +1,7 @@
 -- A fill, refusal by refusal.
-use mathlib.Core.Path.{◌≡◌, refl, sym, ◌∙◌, ap, ap₂}
-use mathlib.Core.Bool.{Bool, true, false, ◌&&◌}
-use mathlib.Core.List.{List, [], ◌∷◌}
+use mathlib.Core.Path.{◌≡◌, sym, ◌∙◌}
+use mathlib.Core.Bool.{Bool, true, false}
+use mathlib.Core.List.{List}
 use Prim.Native.Nat.{ℕ}
 use lib.Dec.{eqb}
 use lib.ListN.{length}
@@ -12,8 +12,8 @@ use Rattle.rules.specs.declared.Fill.{Fill}
 use Rattle.rules.specs.declared.Fill.TheVariants.{Refused, Filled}
 use Rattle.rules.specs.declared.Refusal.TheVariants.{Length, Capabilities}
 use Rattle.rules.specs.Image.{image_size, acs_structure, part_of}
-use Rattle.rules.specs.Refuse.{Result, refused, answered, through}
-use Rattle.rules.specs.Fill.{record_size, Extent, fill_all, filled_fields, filled, whole_sizes, is_sound, listed, filling, record_after}
+use Rattle.rules.specs.Refuse.{through}
+use Rattle.rules.specs.Fill.{record_size, fill_all, filled_fields, filled, whole_sizes, is_sound, listed, filling, record_after}
 use Rattle.rules.specs.Word.{fill_of}
 use Rattle.rules.proofs.Logic.{and_right_false}
 

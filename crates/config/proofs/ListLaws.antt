@@ -1,11 +1,11 @@
 -- The walk of the list: a walk without a look back comes to what the literal one does, and the loop's turns are its steps.
 use mathlib.Core.Path.{◌≡◌, refl, sym, ◌∙◌, ap, subst}
-use mathlib.Core.Bool.{Bool, true, false, cond, ◌&&◌, ◌||◌, not}
+use mathlib.Core.Bool.{Bool, true, false, cond}
 use mathlib.Core.List.{List, [], ◌∷◌}
 use Prim.Native.Nat.{ℕ, zero, suc, ◌+◌, ◌-◌, ◌%◌, ◌≤◌, ◌<◌}
 use native.Mathlib.Omega.{arith}
 use lib.Dec.{eqb, leb}
-use borrow.Author.Tests.{eq-eqb, ne_eqb, eqb-true, eqb-false, leb-true}
+use borrow.Author.Tests.{ne_eqb, eqb-true}
 use Rattle.rules.specs.declared.Structure.{Structure}
 use Rattle.rules.specs.declared.Structure.TheVariants.{Absent, Bad}
 use Rattle.rules.specs.Image.{image_size, enough_steps, list_start, next_offset, is_offset, is_among, is_acs, structure_at, follow, acs_structure}

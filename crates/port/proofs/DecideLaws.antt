@@ -1,5 +1,5 @@
 -- The laws of port::decide: the steps of going up, from what the readers and the branches of the code say.
-use mathlib.Core.Path.{◌≡◌, refl, sym, ◌∙◌, ap}
+use mathlib.Core.Path.{◌≡◌, sym, ◌∙◌, ap}
 use mathlib.Core.Bool.{Bool, true, false, ◌&&◌, not}
 use mathlib.Core.List.{List}
 use Prim.Native.Nat.{ℕ}

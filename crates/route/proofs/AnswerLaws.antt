@@ -5,7 +5,7 @@ use mathlib.Core.List.{List}
 use Prim.Native.Nat.{ℕ, ◌+◌, ◌*◌, ◌/◌, ◌≤◌, ◌<◌}
 use native.Mathlib.Omega.{arith}
 use lib.ListN.{length}
-use borrow.Author.Tests.{le-leb, lt-leb, leb-true}
+use borrow.Author.Tests.{le-leb, lt-leb}
 use Rattle.rules.specs.declared.Tlp.{Tlp}
 use Rattle.rules.specs.declared.Refusal.{Refusal}
 use Rattle.rules.specs.declared.Refusal.TheVariants.{Origin, Header, Room}
@@ -13,12 +13,11 @@ use Rattle.rules.specs.declared.Check.{Check}
 use Rattle.rules.specs.declared.Check.TheVariants as check
 use Rattle.rules.specs.declared.Answer.{Answer}
 use Rattle.rules.specs.declared.Answer.TheVariants.{Refused, Ended}
-use Rattle.rules.specs.Fabric.{shape_of, setting_of}
 use Rattle.rules.specs.Tlp.{header_fine, tlp_of}
 use Rattle.rules.specs.Route.{Trip}
-use Rattle.rules.specs.Bound.{room_for_all, most_hops}
+use Rattle.rules.specs.Bound.{room_for_all}
 use Rattle.rules.specs.Refuse.{Result, refused, answered, through, fits, is_origin, routed, result, verdict, written}
-use Rattle.rules.specs.Word.{result_fields, answer_fields, verdict_of, number_of}
+use Rattle.rules.specs.Word.{result_fields, verdict_of, number_of}
 use Rattle.rules.specs.Accepted.{Accepted}
 use Rattle.snapshot.proofs.CheckLaws.{check_opens, check_refuses}
 use Rattle.tlp.specs.declared.Read.{Read}

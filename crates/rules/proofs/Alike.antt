@@ -7,7 +7,7 @@ use native.Mathlib.Omega.{arith}
 use lib.Dec.{leb}
 use borrow.Author.Tests.{lt-leb}
 use Rattle.rules.specs.Bytes.{byte, le, bit}
-use Rattle.rules.specs.Snapshot.{base, count, kind, port_number, parent, own_bus, devfn, secondary, subordinate, capability, first, last, roots_reach}
+use Rattle.rules.specs.Snapshot.{base, count, kind, port_number, parent, own_bus, devfn, secondary, subordinate, capability, first, last}
 use Rattle.rules.specs.Fabric.{in_range, holds, shape_of}
 use Rattle.rules.specs.Refuse.{is_origin}
 use Rattle.rules.specs.Tight.{setting_byte, Alike}

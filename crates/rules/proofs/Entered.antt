@@ -2,17 +2,17 @@
 use mathlib.Core.Path.{◌≡◌, subst, sym, ◌∙◌}
 use mathlib.Core.Bool.{false, true, ◌&&◌}
 use mathlib.Core.List.{List}
-use Prim.Native.Nat.{ℕ, ◌+◌, ◌*◌, ◌≤◌, ◌<◌}
+use Prim.Native.Nat.{ℕ, ◌+◌, ◌≤◌, ◌<◌}
 use native.Mathlib.Omega.{arith}
-use lib.Dec.{eqb, leb, ltb}
+use lib.Dec.{eqb, ltb}
 use lib.ListN.{length}
-use borrow.Author.Tests.{ltb-true, leb-true, eqb-true, ne_eqb}
-use Rattle.rules.specs.Snapshot.{flags, count, taken, good_until, kind, parent, is_endpoint, is_port, complex}
+use borrow.Author.Tests.{ltb-true, eqb-true, ne_eqb}
+use Rattle.rules.specs.Snapshot.{count, kind, parent, is_endpoint, is_port, complex}
 use Rattle.rules.specs.Fabric.{Shape, shape_of, setting_of}
 use Rattle.rules.specs.declared.Tlp.{Tlp}
 use Rattle.rules.specs.Tlp.{tlp_of}
 use Rattle.rules.specs.Route.{Trip, up, from_top, start, route}
-use Rattle.rules.specs.Refuse.{result, answered, well_made, is_origin, routed}
+use Rattle.rules.specs.Refuse.{result, answered, is_origin, routed}
 use Rattle.rules.specs.Properties.{WellFormed, IsEndpoint}
 use Rattle.rules.specs.Accepted.{Accepted}
 use Rattle.rules.specs.Bound.{ports, depth, most_hops}

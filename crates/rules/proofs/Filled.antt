@@ -1,21 +1,20 @@
 -- A filled record: byte by byte, and that its windows keep the rule for windows.
-use mathlib.Core.Path.{◌≡◌, refl, sym, ◌∙◌, ap, ap₂, subst}
-use mathlib.Core.Bool.{Bool, true, false, cond, ◌&&◌, ◌||◌, not}
-use mathlib.Core.List.{List, [], ◌∷◌, ◌++◌}
-use Prim.Native.Nat.{ℕ, zero, suc, ◌+◌, ◌-◌, ◌*◌, ◌/◌, ◌%◌, ◌^◌, ◌≤◌, ◌<◌}
-use native.Mathlib.Nat.{not-suc-le-zero}
+use mathlib.Core.Path.{◌≡◌, refl, sym, ◌∙◌, ap}
+use mathlib.Core.Bool.{true, ◌||◌, not}
+use mathlib.Core.List.{List, [], ◌∷◌}
+use Prim.Native.Nat.{ℕ, zero, suc, ◌+◌, ◌*◌, ◌/◌, ◌%◌, ◌^◌, ◌≤◌, ◌<◌}
 use native.Mathlib.Omega.{arith}
 use lib.Dec.{eqb, leb, ltb}
 use lib.ListN.{length, set, length-set, get_or-append}
-use lib.Seq.{sets, length-sets, get_or-set_same, get_or-set_other, get_or-append-add}
-use borrow.Author.Tests.{eqb-true, eqb-false, leb-true, leb-false, ltb-true, ltb-false, eq-eqb, le-leb, lt-ltb}
+use lib.Seq.{length-sets, get_or-set_same, get_or-set_other, get_or-append-add}
+use borrow.Author.Tests.{eqb-true, leb-true, leb-false, ltb-false, eq-eqb, le-leb, lt-ltb}
 use Rattle.rules.specs.declared.Range.{Range}
 use Rattle.rules.specs.Bytes.{byte, le, le_bytes, bytes_from, laid, within}
 use Rattle.rules.specs.Snapshot.{base, kind, first, last, closed, is_bridge}
 use Rattle.rules.specs.Records.{window_fine, range_fine}
 use Rattle.rules.specs.Properties.{AreBytes}
 use Rattle.rules.specs.Image.{primary_bus, secondary_bus, subordinate_bus, memory_window, prefetchable_window, acs_structure, part_of}
-use Rattle.rules.specs.Image.{range, window, upper_half, base_address, limit_address}
+use Rattle.rules.specs.Image.{window, upper_half, base_address, limit_address}
 use Rattle.rules.specs.Fill.{record_size, range_bytes, filled_fields, fill_all, filled, is_other, ByteByByte, Holds}
 use Rattle.rules.proofs.Logic.{either, contradiction, or_right}
 

@@ -7,7 +7,7 @@ use Prim.Native.Nat.{ℕ, zero, suc, ◌+◌, ◌*◌, ◌≤◌}
 use native.Mathlib.Omega.{arith}
 use lib.Dec.{lit<}
 use lib.ListN.{length}
-use borrow.Author.Tests.{le-leb, eqb-true}
+use borrow.Author.Tests.{le-leb}
 use Rattle.rules.specs.declared.Outcome.TheVariants.{Delivered, Undefined}
 use Rattle.rules.specs.Bytes.{byte}
 use Rattle.rules.specs.Snapshot.{parent, kind, is_root, complex}

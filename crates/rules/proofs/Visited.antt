@@ -1,17 +1,16 @@
 -- The walk of the extended capabilities has steps enough: an image has 960 offsets, and no walk visits more. With more steps it comes
 -- to the same, so that "already visited" alone ends a walk that would go round.
-use mathlib.Core.Path.{◌≡◌, refl, sym, ◌∙◌, ap}
-use mathlib.Core.Bool.{Bool, true, false, cond, ◌&&◌, ◌||◌, not}
+use mathlib.Core.Path.{◌≡◌, refl, ◌∙◌, ap}
+use mathlib.Core.Bool.{true, false, cond}
 use mathlib.Core.List.{List, [], ◌∷◌}
-use Prim.Native.Nat.{ℕ, zero, suc, ◌+◌, ◌*◌, ◌/◌, ◌%◌, ◌≤◌, ◌<◌}
+use Prim.Native.Nat.{ℕ, zero, suc, ◌+◌, ◌*◌, ◌%◌, ◌≤◌, ◌<◌}
 use native.Mathlib.Omega.{arith}
 use lib.Dec.{eqb, leb}
 use lib.ListN.{length}
 use borrow.Author.Tests.{eqb-true, eqb-false, leb-true, leb-false}
-use Rattle.rules.specs.Bytes.{byte, le}
 use Rattle.rules.specs.Properties.{AreBytes}
-use Rattle.rules.specs.Image.{image_size, next_offset, is_acs, structure_at, list_start, is_offset, is_among, follow, enough_steps, acs_structure}
-use Rattle.rules.proofs.Logic.{either, both, or_false, contradiction}
+use Rattle.rules.specs.Image.{image_size, next_offset, is_acs, list_start, is_offset, is_among, follow, enough_steps, acs_structure}
+use Rattle.rules.proofs.Logic.{either, both, or_false}
 
 -- multiples of 4 from 100h on, below a bound, none of them twice
 abbrev Apart : ℕ → List ℕ → Type 0

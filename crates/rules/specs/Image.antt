@@ -1,5 +1,5 @@
 -- What is read from the configuration space image of a bridge (document 02, 2/13). Numbers in it are little-endian.
-use Rattle.std.specs.Prelude.{Bool, true, false, cond, ◌&&◌, ◌||◌, not, List, [], ◌∷◌, ℕ, zero, suc, ◌+◌, ◌*◌, ◌/◌, ◌%◌, ◌^◌, eqb, leb, ltb, length, take, drop}
+use Rattle.std.specs.Prelude.{Bool, false, cond, ◌&&◌, ◌||◌, not, List, [], ◌∷◌, ℕ, zero, suc, ◌+◌, ◌*◌, ◌/◌, ◌%◌, ◌^◌, eqb, leb, ltb, length, take, drop}
 use Rattle.rules.specs.Bytes.{byte, le, bit}
 use Rattle.rules.specs.Snapshot.{bit_e, vector_size}
 use Rattle.rules.specs.declared.Range.{Range}

@@ -1,12 +1,11 @@
 -- Texts put one after the other are their joined text put at once.
 use mathlib.Core.Path.{◌≡◌, refl, sym, ◌∙◌, ap, subst}
-use mathlib.Core.List.{List, [], ◌∷◌, ◌++◌, append_assoc}
-use Prim.Native.Nat.{ℕ, suc, ◌+◌, ◌≤◌, ◌<◌}
+use mathlib.Core.List.{List, [], ◌∷◌, ◌++◌}
+use Prim.Native.Nat.{ℕ, ◌+◌, ◌≤◌, ◌<◌}
 use native.Mathlib.Numerals.{add-one}
 use native.Mathlib.Omega.{arith}
-use lib.ListN.{length, take, drop, set, get_or, length-append, take-append-drop}
-use lib.Seq.{set_split, take-suc, take_all, length-take-le}
-use Rattle.rules.specs.Bytes.{laid}
+use lib.ListN.{length, take, drop, get_or, length-append}
+use lib.Seq.{take-suc, take_all, length-take-le}
 use Rattle.numbers.proofs.Laid.{laid_split, length_laid, laid_none, laid_both}
 use Rattle.text.specs.Put.{Put}
 

@@ -1,7 +1,7 @@
 -- The worked cases of request 1/13 come out as document 02 says, each by computation.
 use mathlib.Core.Path.{refl}
 use Rattle.cases.specs.Worked.{Every}
-use Rattle.cases.specs.FabricF.{fabric, request, plain, directly, by_the_top}
+use Rattle.cases.specs.FabricF.{plain, directly, by_the_top}
 use Rattle.cases.proofs.Computes.{computes}
 use Rattle.vectorcases.specs.Vectors.{with, stopped, reading, vectors, bits, EveryBit}
 

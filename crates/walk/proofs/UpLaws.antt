@@ -1,7 +1,7 @@
 -- The way up and the reflection at the top, from what the decision at a port and the calls for it say.
 use mathlib.Core.Path.{◌≡◌, refl, sym, ◌∙◌, ap, subst}
 use mathlib.Core.Bool.{Bool, true, false}
-use mathlib.Core.List.{List, [], ◌∷◌}
+use mathlib.Core.List.{List}
 use Prim.Native.Nat.{ℕ, ◌+◌, ◌≤◌, ◌<◌}
 use native.Mathlib.Nat.{add-suc, suc-add}
 use native.Mathlib.Numerals.{add-one}
@@ -14,7 +14,7 @@ use Rattle.rules.specs.declared.Outcome.TheVariants.{Unclaimed}
 use Rattle.rules.specs.declared.Move.{Move}
 use Rattle.rules.specs.declared.Move.TheVariants.{Up, Across, Reflect, Stop, Beyond}
 use Rattle.rules.specs.declared.Tlp.{Tlp}
-use Rattle.rules.specs.Snapshot.{HasRecord, complex, count, kind, parent, is_port}
+use Rattle.rules.specs.Snapshot.{HasRecord, complex, count, parent}
 use Rattle.rules.specs.Fabric.{shape_of, setting_of}
 use Rattle.rules.specs.Cover.{entry_for}
 use Rattle.rules.specs.Decide.{direct_to_peer, reflected, ends_here, decide}

@@ -1,7 +1,4 @@
 -- `config::header::is_acs` meets its contract.
-use mathlib.Core.Path.{ap}
-use Prim.Native.Nat.{ℕ}
-use lib.Dec.{eqb}
 use borrow.Author.Rules.{rules}
 use Rattle.config.proofs.header.is_acs.Statement.{statement}
 use Rattle.config.proofs.header.is_acs.Tie as tie

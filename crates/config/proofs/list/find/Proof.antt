@@ -1,6 +1,5 @@
 -- `config::list::find` meets its contract: a turn is a step of the walk, and the rest of it is owed.
 use Prim.Native.Nat.{◌-◌}
-use native.Mathlib.Omega.{arith}
 use borrow.Author.Rules.{rules}
 use Rattle.rules.specs.Image.{enough_steps}
 use Rattle.config.proofs.ListLaws.{Walking, walk_begins, header_there, first_found, leaves_list, walks_on, goes_round}

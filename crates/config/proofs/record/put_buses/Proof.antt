@@ -1,5 +1,4 @@
 -- `config::record::put_buses` meets its contract: two fields, byte by byte.
-use mathlib.Core.Path.{refl}
 use borrow.Author.Rules.{rules}
 use Rattle.rules.specs.Bytes.{laid}
 use Rattle.config.proofs.record.put_buses.Statement.{statement}

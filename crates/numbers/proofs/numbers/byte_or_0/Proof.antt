@@ -1,6 +1,5 @@
 -- `numbers::numbers::byte_or_0` meets its contract: past its end a list reads 0.
 use mathlib.Core.Path.{sym}
-use native.Mathlib.Omega.{arith}
 use borrow.Author.Rules.{rules}
 use lib.ListN.{get_or-eq_default}
 use Rattle.numbers.proofs.numbers.byte_or_0.Statement.{statement}

@@ -13,7 +13,7 @@ span_fine_spec =
     tie.close
     (tie.spec
     (λ c. simp (lt-leb _ _ c.if-last-first.true))
-    (λ c. whole_span _ _ c.if-rest.true)
+    (λ c. search whole_span)
     (λ c. search rules)
     (λ c κs. search rules)
     (λ c. c.sized.ensures ∙ simp (le-leb _ _ c.before.before.if-last-first.false)))

@@ -1,5 +1,4 @@
 -- `text::lines::put_abort` meets its contract.
-use Rattle.text.specs.Text.{abort_text}
 use Rattle.text.proofs.LinesLaws.{says_abort, says_drop}
 use Rattle.text.proofs.lines.put_abort.Goals as goal
 

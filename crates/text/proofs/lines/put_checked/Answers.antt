@@ -1,5 +1,4 @@
 -- `text::lines::put_checked` meets its contract.
-use Rattle.text.specs.Text.{checked_text}
 use Rattle.text.proofs.LinesLaws.{says_checked, says_unvalidated}
 use Rattle.text.proofs.lines.put_checked.Goals as goal
 

@@ -1,5 +1,4 @@
 -- `text::lines::put_head` meets its contract: mark, version, record count.
-use Rattle.text.specs.Text.{number, head_text}
 use Rattle.text.proofs.LinesLaws.{says_head}
 use Rattle.text.proofs.lines.put_head.Goals as goal
 

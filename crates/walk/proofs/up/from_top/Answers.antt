@@ -1,5 +1,5 @@
 -- `walk::up::from_top` meets its contract: down the root port that was found, or nowhere.
-use Rattle.std.proofs.Common.{rules, arith}
+use Rattle.std.proofs.Common.{arith}
 use Rattle.walk.proofs.UpLaws.{entry_here, enters, enters_nowhere}
 use Rattle.walk.proofs.up.from_top.Goals as goal
 
