@@ -46,7 +46,7 @@ module _ (sh : Shape) (wf : WellFormed sh) where
   parent_no_endpoint i l r =
       either (is_downstream (sh.kind i))
       (λ d. let e : sh.kind (sh.parent i) ≡ 2 = eqb-true _ _ (wf.under_upstream i l d) in rw e)
-      (λ n. port_no_endpoint (sh.kind (sh.parent i)) (wf.under_port_lem i l (rw (r, n))))
+      (λ n. port_no_endpoint (sh.kind (sh.parent i)) (wf.under_port i l (rw (r, n))))
 
   module _ (few : sh.count ≤ 256) where
     -- a record whose parent is a record is no root port
@@ -205,7 +205,7 @@ module _ (sh : Shape) (st : Setting) (t : Tlp) (wf : WellFormed sh) (nest : Nest
         by_v = λ _ _. source_no_egress;
         by_b = λ _ _ _. translation_no_egress;
         undefined = λ _ _ _ _. tt;
-        sent_up_lem = λ _ a _ q c r _. rec r (claimed_above sh wf nest few t p q l k r c);
+        sent_up = λ _ a _ q c r _. rec r (claimed_above sh wf nest few t p q l k r c);
         blocked = λ _ _ _ _ _ _. validation_no_egress;
         reflects = λ _ q c r _ _. reflected_answerable p q l r c;
         by_e = λ _ n _ _ _ o. contradiction o n;
@@ -227,7 +227,7 @@ module _ (sh : Shape) (st : Setting) (t : Tlp) (wf : WellFormed sh) (nest : Nest
         by_v = λ _ _. source_no_egress;
         by_b = λ _ _ _. translation_no_egress;
         undefined = λ _ _ _ _. tt;
-        sent_up_lem = λ _ a _ q c r _. let x : Ascends sh p = ascends sh wf p l k r in
+        sent_up = λ _ a _ q c r _. let x : Ascends sh p = ascends sh wf p l k r in
             covered_answerable (above sh p) x.present x.port (claimed_above sh wf nest few t p q l k r c);
         blocked = λ _ _ _ _ _ _. validation_no_egress;
         reflects = λ _ q c r _ _. reflected_answerable p q l r c;

@@ -31,7 +31,7 @@ pub endpoint_entered : (s : List ℕ) → WellFormed (shape_of s) → (o : ℕ) 
 unfolding shape_of
 endpoint_entered s wf o e =
     let k : kind s o ≡ 4 = eqb-true _ _ e.1 in
-    record { present = parent_present (shape_of s) wf o e.0 (rw k); port = wf.under_port_lem o e.0 (rw k) }
+    record { present = parent_present (shape_of s) wf o e.0 (rw k); port = wf.under_port o e.0 (rw k) }
 
 -- an endpoint's route enters the port above it
 pub endpoint_way : (s : List ℕ) (o : ℕ) (t : Tlp) → count s ≤ 256 → IsEndpoint s o

@@ -111,7 +111,7 @@ module _ (sh : Shape) (wf : WellFormed sh) where
           → 2 * ports sh i ≤ i + 1 + cond (is_port (sh.kind i)) 1 0
       at_other r k ih =
           let m : sh.parent i < i = wf.lower i l r in
-          let h : 2 * ports sh (sh.parent i) ≤ sh.parent i + 1 + 1 = rw (wf.under_port_lem i l k) at (ih (sh.parent i) (omega arith) (omega arith)) in
+          let h : 2 * ports sh (sh.parent i) ≤ sh.parent i + 1 + 1 = rw (wf.under_port i l k) at (ih (sh.parent i) (omega arith) (omega arith)) in
           let y : ports sh i ≡ ports sh (sh.parent i) = ports_other i l k r in
           rw k (omega arith)
 
@@ -132,7 +132,7 @@ module _ (sh : Shape) (wf : WellFormed sh) where
         let no_root : is_root (sh.kind x.via) ≡ false = (or_false (is_root (sh.kind x.via)) (is_downstream (sh.kind x.via)) no-port).0 in
         let q-no-root : is_root (sh.kind q) ≡ false = standing sh wf few q x.present (rw x.below x.via_present) in
         let q-port : is_port (sh.kind q) ≡ true = either (is_port (sh.kind q)) (λ y. y)
-        (λ n. contradiction (rw x.below at (wf.under_port_lem q x.present n)) no-port) in
+        (λ n. contradiction (rw x.below at (wf.under_port q x.present n)) no-port) in
         let a : ports sh q ≡ 1 + ports sh x.via = rw x.below at (ports_port q x.present q-port q-no-root) in
         let b : ports sh x.via ≡ ports sh p = rw x.via_below at (ports_other x.via x.via_present no-port no_root) in
         (q-port, omega arith)
@@ -178,7 +178,7 @@ module _ (sh : Shape) (wf : WellFormed sh) where
           by_v = λ _. omega arith;
           by_b = λ _ _. omega arith;
           undefined = λ _ _ _. omega arith;
-          sent_up_lem = λ _ _ _ _ _ r. rise r;
+          sent_up = λ _ _ _ _ _ r. rise r;
           blocked = λ _ _ _ _ _. omega arith;
           reflects = λ _ _ _ _ _. le_trans (suc-le-suc (top_hops _)) (omega arith);
           by_e = λ _ _ _ _ _. omega arith;

@@ -160,7 +160,7 @@ module _ (s : List ℕ) (clean : lowest_faulty s ≡ Nothing) where
         lower = λ i l r. ltb-true _ _ (stands s i (all_keep i l) r).0;
         parentless = λ i l r. no_parent s i (all_keep i l) r;
         under_upstream = λ i l d. upstream_above s i (all_keep i l) d;
-        under_port_lem = λ i l n. port_above_lem s i (all_keep i l) n;
+        under_port = λ i l n. port_above_lem s i (all_keep i l) n;
       }
 
   pub nested_covers : Nested (shape_of s)

@@ -162,7 +162,7 @@ pub record DecideCases (sh : Shape) (st : Setting) (t : Tlp) (p : ℕ) (Q : Move
   pub by_v : bad_source sh st t p ≡ true → Q (violation Source t p)
   pub by_b : bad_source sh st t p ≡ false → bad_translation st t p ≡ true → Q (violation Translation t p)
   pub undefined : Passed sh st t p → covers sh t p ≡ true → st.u p ≡ false → Q (Stop (Undefined p))
-  pub sent_up_lem : Passed sh st t p → (a : ℕ) → eqb a as_addressed ≡ false → (q : ℕ) → Claims sh t p q → is_root (sh.kind p) ≡ false → Q (Up a)
+  pub sent_up : Passed sh st t p → (a : ℕ) → eqb a as_addressed ≡ false → (q : ℕ) → Claims sh t p q → is_root (sh.kind p) ≡ false → Q (Up a)
   pub blocked : Passed sh st t p → (q : ℕ) → Claims sh t p q → is_root (sh.kind p) ≡ true → blocks sh t ≡ true → Q (violation Validation t p)
   pub reflects : Passed sh st t p → (q : ℕ) → Claims sh t p q → is_root (sh.kind p) ≡ true → blocks sh t ≡ false → Q Reflect
   pub by_e : Passed sh st t p → covers sh t p ≡ false → (q : ℕ) → peer_of sh t p ≡ At q
@@ -194,7 +194,7 @@ module _ (sh : Shape) (st : Setting) (t : Tlp) (p : ℕ) (here : p < sh.count) (
       → Q (sent_up sh t p a)
   unfolding sent_up at_the_top
   sent_case Q c ok q x a n =
-      cond_case Q (is_root (sh.kind p)) (λ r. cond_case Q (blocks sh t) (c.blocked ok q x r) (c.reflects ok q x r)) (c.sent_up_lem ok a n q x)
+      cond_case Q (is_root (sh.kind p)) (λ r. cond_case Q (blocks sh t) (c.blocked ok q x r) (c.reflects ok q x r)) (c.sent_up ok a n q x)
 
   pub decide_case : (Q : Move → Type 0) → DecideCases sh st t p Q → Q (decide sh st t p)
   unfolding decide own_range to_peer direct onward past_parent
@@ -236,7 +236,7 @@ ascends sh wf p l k r =
       no_root = r;
       lower = omega arith;
       present = omega arith;
-      port = wf.under_port_lem (sh.parent p) (omega arith) no-port;
+      port = wf.under_port (sh.parent p) (omega arith) no-port;
     }
 
 -- where a decision on the way up leads
@@ -255,7 +255,7 @@ module _ (sh : Shape) (st : Setting) (t : Tlp) (wf : WellFormed sh) where
         by_v = λ _. tt;
         by_b = λ _ _. tt;
         undefined = λ _ _ _. tt;
-        sent_up_lem = λ _ a _ _ _ r. ascends sh wf p l k r;
+        sent_up = λ _ a _ _ _ r. ascends sh wf p l k r;
         blocked = λ _ _ _ _ _. tt;
         reflects = λ _ _ _ r _. r;
         by_e = λ _ _ _ _ _. tt;

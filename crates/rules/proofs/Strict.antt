@@ -55,7 +55,7 @@ module _ (s : List ℕ) (t : Tlp) (wf : WellFormed (shape_of s)) where
         by_v = λ _. refl;
         by_b = λ _ _. refl;
         undefined = λ _ _ off. contradiction (every p (l, k)) off;
-        sent_up_lem = λ _ _ _ _ _ r. rec r;
+        sent_up = λ _ _ _ _ _ r. rec r;
         blocked = λ _ _ _ _ _. refl;
         reflects = λ _ _ _ _ _. top_defined (shape_of s) t _;
         by_e = λ _ _ _ _ _. refl;
@@ -90,7 +90,7 @@ module _ (s : List ℕ) (t : Tlp) (wf : WellFormed (shape_of s)) where
           by_v = λ _. refl;
           by_b = λ _ _. refl;
           undefined = λ _ _ _. refl;
-          sent_up_lem = λ _ _ _ _ _ r. rec r;
+          sent_up = λ _ _ _ _ _ r. rec r;
           blocked = λ _ _ _ _ _. refl;
           reflects = λ _ _ _ _ _. checked_validated (shape_of s) t;
           by_e = λ _ _ _ _ _. refl;

@@ -135,7 +135,7 @@ module _ (old new : List ℕ) (bytes : AreBytes new) (alike : Alike old new) (ti
         by_v = λ _ z. contradiction z refl;
         by_b = λ _ _ z. contradiction z refl;
         undefined = λ _ _ _ z. contradiction z refl;
-        sent_up_lem = λ _ a _ q c r z. contradiction z (up_not_sent p q l k r c);
+        sent_up = λ _ a _ q c r z. contradiction z (up_not_sent p q l k r c);
         blocked = λ _ _ _ _ _ z. contradiction z refl;
         reflects = λ _ q c r _ z. contradiction z (checked_validated (shape_of new) t);
         by_e = λ _ _ _ _ _ z. contradiction z refl;

@@ -90,7 +90,7 @@ module _ (s : List ℕ) (clean : lowest_faulty s ≡ Nothing) (wf : WellFormed (
       either (is_port (kind s j)) (λ x. x)
       (λ n.
       let nr : is_root (kind s j) ≡ false = (or_false (is_root (kind s j)) (is_downstream (kind s j)) n).0 in
-      contradiction k (under_no_port (shape_of s) wf few (parent s j) i (parent_present (shape_of s) wf j m nr) (wf.under_port_lem j m n) l e))
+      contradiction k (under_no_port (shape_of s) wf few (parent s j) i (parent_present (shape_of s) wf j m nr) (wf.under_port j m n) l e))
 
   port_bridge : (i : ℕ) → i < count s → is_port (kind s i) ≡ true → (is_endpoint (kind s i) ≡ false) × (is_bridge (kind s i) ≡ true)
   port_bridge i l k =

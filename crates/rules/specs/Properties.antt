@@ -18,7 +18,7 @@ pub record WellFormed (sh : Shape) : Type 0 where
   pub parentless : (i : ℕ) → i < sh.count → is_root (sh.kind i) ≡ true → sh.parent i ≡ complex
   -- kind 3 stands under kind 2, kinds 2 and 4 under a port
   pub under_upstream : (i : ℕ) → i < sh.count → is_downstream (sh.kind i) ≡ true → is_upstream (sh.kind (sh.parent i)) ≡ true
-  pub under_port_lem : (i : ℕ) → i < sh.count → is_port (sh.kind i) ≡ false → is_port (sh.kind (sh.parent i)) ≡ true
+  pub under_port : (i : ℕ) → i < sh.count → is_port (sh.kind i) ≡ false → is_port (sh.kind (sh.parent i)) ≡ true
 
 -- What they give of ranges and buses: what a record covers its parent covers.
 pub record Nested (sh : Shape) : Type 0 where
