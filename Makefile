@@ -1,7 +1,7 @@
 # Builds the library for C, shows it, compares it and measures it.
 # `make help` lists what there is; docs/INTERFACE.md describes the interface.
 
-# The archive: a copy of what `rt lib acs_c` writes, or another one, as in
+# The archive: a copy of what `rt lib` writes in crates/acs_c, or another one, as in
 #     make demo ACS_LIB=path/to/libacs.a
 ACS_LIB ?= build/archive/libacs.a
 
@@ -89,8 +89,8 @@ build/.gitignore:
 ifeq ($(origin ACS_LIB),file)
 $(ACS_LIB): crates.txt $(shell find crates -name out -prune -o \( -name '*.rt' -o -name '*.antt' \) -print) \
             | build/.gitignore
-	@echo 'rt lib acs_c: proves the library and writes $@; this takes a while'
-	@$(RT) lib acs_c > build/archive.log 2>&1 \
+	@echo 'rt lib, in crates/acs_c: proves the library and writes $@; this takes a while'
+	@(cd crates/acs_c && $(RT) lib) > build/archive.log 2>&1 \
 	    || { tail -n 20 build/archive.log; echo 'all of it is in build/archive.log'; exit 1; }
 	@tail -n 1 build/archive.log
 	@install -d $(@D)

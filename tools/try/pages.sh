@@ -45,7 +45,7 @@ lacks 'Later calls will stand beside these two' cat docs/INTERFACE.md
 has README.md '## Where snapshots come from'
 has README.md 'ACS_LIB='
 has README.md 'rt version'
-has README.md 'rt run acsroute'
+has README.md 'cd crates/acsroute && rt run'
 has README.md '--for-acsroute | crates/acsroute/out/acsroute'
 has README.md 'minutes'
 says 0 'ACS_LIB' "$MAKE" -s help

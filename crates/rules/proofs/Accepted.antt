@@ -13,7 +13,7 @@ use Rattle.rules.proofs.Logic.{both}
 use Rattle.rules.proofs.Sound.{well_formed, nested_covers}
 use Rattle.rules.proofs.Gates.{verdict_made}
 
--- a well_made_lem snapshot has at most 256 records, and they fill it
+-- a well-made snapshot has at most 256 records, and they fill it
 pub well_made_lem : (s : List ℕ) → well_made s ≡ true → (count s ≤ 256) × (length s ≡ base (count s))
 unfolding well_made
 well_made_lem s h =

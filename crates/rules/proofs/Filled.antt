@@ -165,9 +165,9 @@ module _ (image acs r : List ℕ) (size : length r ≡ record_size) where
       let e : length (bytes_from n acs i) ≡ n = length_bytes n acs i in
       laid_at (bytes_from n acs i) b from k (omega arith) (omega arith) ∙ bytes_at n acs i k l
 
-  in_range_lem : (w : Range) (from : ℕ) (b : List ℕ) (k : ℕ) → from + 16 ≤ length b → k < 16
+  in_range : (w : Range) (from : ℕ) (b : List ℕ) (k : ℕ) → from + 16 ≤ length b → k < 16
       → byte (laid b from (range_bytes w)) (from + k) ≡ byte (range_bytes w) k
-  in_range_lem w from b k room l =
+  in_range w from b k room l =
       let e : length (range_bytes w) ≡ 16 = length_range w in laid_at (range_bytes w) b from k (omega arith) (omega arith)
 
   pub byte_by_byte : ByteByByte image acs r (fill_all (filled_fields image acs) r)
@@ -182,8 +182,8 @@ module _ (image acs r : List ℕ) (size : length r ≡ record_size) where
         control = λ k l. below₁₆ (10 + k) (omega arith) ∙ in_bytes 2 10 r₃ 6 k (omega (arith, size₃)) l;
         vector = λ k l. below₄₈ (16 + k) (omega arith) ∙ in_bytes 32 16 r₄ 8 k (omega (arith, size₄)) l;
         memory = λ k l.
-            laid_before _ r₆ 64 (48 + k) (omega arith) ∙ in_range_lem (memory_window image) 48 r₅ k (omega (arith, size₅)) l;
-        prefetchable = λ k l. in_range_lem (prefetchable_window image) 64 r₆ k (omega (arith, size₆)) l;
+            laid_before _ r₆ 64 (48 + k) (omega arith) ∙ in_range (memory_window image) 48 r₅ k (omega (arith, size₅)) l;
+        prefetchable = λ k l. in_range (prefetchable_window image) 64 r₆ k (omega (arith, size₆)) l;
         others = λ k h. outside k (other k h);
       }
 

@@ -133,7 +133,7 @@ all_at (suc n) f h j l = at_or_below (all_at n f (both (all_below n f) (f n) h).
         strict : f j ≡ false → j < n
         strict q = let d : j ≡ n → ⊥ = λ (e : j ≡ n). contradiction p (sym (ap f e) ∙ q) in omega (arith, d)
 
--- findFrom: k numbers from i on, as what is left of n
+-- find_from: k numbers from i on, as what is left of n
 
 pub find_hit : (f : ℕ → Bool) (n i : ℕ) → i < n → f i ≡ true → find_from f (n - i) i ≡ At i
 unfolding find_from

@@ -84,8 +84,8 @@ module _ (s : List ℕ) (i : ℕ) (ok : Keeps s i) where
   upstream_above : is_downstream (kind s i) ≡ true → is_upstream (kind s (parent s i)) ≡ true
   upstream_above d = rw d at (stands (downstream_no_root (kind s i) d)).1
 
-  port_above_lem : is_port (kind s i) ≡ false → is_port (kind s (parent s i)) ≡ true
-  port_above_lem n =
+  port_above : is_port (kind s i) ≡ false → is_port (kind s (parent s i)) ≡ true
+  port_above n =
       let e = or_false (is_root (kind s i)) (is_downstream (kind s i)) n in rw e.1 at (stands e.0).1
 
   own_bus_above : is_root (kind s i) ≡ false → own_bus s i ≡ secondary s (parent s i)
@@ -160,7 +160,7 @@ module _ (s : List ℕ) (clean : lowest_faulty s ≡ Nothing) where
         lower = λ i l r. ltb-true _ _ (stands s i (all_keep i l) r).0;
         parentless = λ i l r. no_parent s i (all_keep i l) r;
         under_upstream = λ i l d. upstream_above s i (all_keep i l) d;
-        under_port = λ i l n. port_above_lem s i (all_keep i l) n;
+        under_port = λ i l n. port_above s i (all_keep i l) n;
       }
 
   pub nested_covers : Nested (shape_of s)

@@ -54,14 +54,14 @@ module _ (s : List ℕ) (t : Tlp) (o : ℕ) where
     pub endpoint_here : HasRecord s o
     endpoint_here = let l = endpoint.0 in let e = ok.size in omega arith
 
-    pub under_port_lem : {p : ℕ} → p ≡ parent s o → IsPort s p
+    pub under_port : {p : ℕ} → p ≡ parent s o → IsPort s p
     unfolding shape_of
-    under_port_lem e =
+    under_port e =
         let x : Entered (shape_of s) (parent s o) = endpoint_entered s ok.formed o endpoint in
         subst (λ (p : ℕ). IsPort s p) (sym e) (x.present, x.port)
 
     pub under_low : {p : ℕ} → p ≡ parent s o → 0 + p ≤ count s
-    under_low e = let l = (under_port_lem e).0 in omega arith
+    under_low e = let l = (under_port e).0 in omega arith
 
     pub walks_up : {p : ℕ} {b : List ℕ} {r : Walked} {b₁ : List ℕ} → p ≡ parent s o → r ≡ walked_from 0 (up (shape_of s) (setting_of s) t p)
         → b₁ ≡ puts b 0 (up (shape_of s) (setting_of s) t p).hops → Walks s t o b r b₁

@@ -1,6 +1,6 @@
 -- `walk::way::hops` meets its contract: from the top for the host, and up for an endpoint.
 use Rattle.std.proofs.Common.{rules}
-use Rattle.walk.proofs.WayLaws.{walks_down, endpoint_here, under_port_lem, under_low, walks_up}
+use Rattle.walk.proofs.WayLaws.{walks_down, endpoint_here, under_port, under_low, walks_up}
 use Rattle.walk.proofs.way.hops.Goals as goal
 
 pub returns-then-o-eq-COMPLEX : goal.returns-then-o-eq-COMPLEX
@@ -12,7 +12,7 @@ pub parent-requires : goal.parent-requires
 parent-requires c = search endpoint_here
 
 pub go_up-requires : goal.go_up-requires
-go_up-requires c = (search rules, (search under_port_lem, (search under_low, search rules)))
+go_up-requires c = (search rules, (search under_port, (search under_low, search rules)))
 
 pub returns : goal.returns
 returns c =
