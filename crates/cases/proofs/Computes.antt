@@ -1,7 +1,8 @@
 -- Every rule that a worked case's answer computes through. `computes` on a proof's `unfolding` line opens them all.
 use Rattle.rules.specs.Below.{all_below, any_below, find_from}
 use Rattle.rules.specs.Bytes.{be}
-use Rattle.rules.specs.Records.{kind_fine, parent_fine, only_child, blank_fine, own_bus_fine, bus_order_fine, buses_meet, buses_apart, numbers_meet, numbers_apart}
+use Rattle.rules.specs.Records.{kind_fine, parent_fine, only_child, blank_fine, own_bus_fine}
+use Rattle.rules.specs.Records.{bus_order_fine, buses_meet, buses_apart, numbers_meet, numbers_apart}
 use Rattle.rules.specs.Records.{sized, span_fine, range_fine, ranges_fine, overlap, own_ranges_apart, ranges_meet, ranges_apart, inside, nested_fine}
 use Rattle.rules.specs.Records.{fine, faulty, lowest_faulty}
 use Rattle.rules.specs.Fabric.{in_range, holds, shape_of, setting_of}

@@ -18,7 +18,8 @@ use Rattle.rules.specs.Snapshot.{kind, parent, secondary, subordinate, control, 
 use Rattle.rules.specs.Snapshot.{bit_v, bit_b, bit_r, bit_c, bit_u, bit_e, bit_t, complex}
 use Rattle.rules.specs.Fabric.{shape_of, setting_of}
 use Rattle.rules.specs.Cover.{covers, peer_of}
-use Rattle.rules.specs.Decide.{as_addressed, up_by_u, redirected_up, direct_to_peer, violation, blocks, at_the_top, sent_up, bad_source, bad_translation, own_range}
+use Rattle.rules.specs.Decide.{as_addressed, up_by_u, redirected_up, direct_to_peer, violation, blocks}
+use Rattle.rules.specs.Decide.{at_the_top, sent_up, bad_source, bad_translation, own_range}
 use Rattle.rules.specs.Decide.{handling, turns_back, peer_handling, direct, handled, to_peer, past_parent, onward, decide}
 use Rattle.port.specs.Parts.{blocked, validated, goes_translated, by_table, elsewhere}
 use Rattle.cover.proofs.CoverLaws.{root}

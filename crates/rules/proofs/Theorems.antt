@@ -51,7 +51,9 @@ tighter_never_opens old new now o h room r i bytes alike tight ok ans e req del 
     let inn : Entered (shape_of new) ((shape_of new).parent o) = endpoint_entered new is.formed o e in
     let e-old : IsEndpoint old o = rw (same_count old new alike, same_kind old new alike o) e in
     let now-up : up (shape_of new) (setting_of new) (tlp_of h) ((shape_of new).parent o) ≡ r = sym (endpoint_route new o h is.few e) ∙ a.route_is in
-    let one : up (shape_of new) (setting_of old) (tlp_of h) ((shape_of new).parent o) ≡ up (shape_of new) (setting_of new) (tlp_of h) ((shape_of new).parent o) =
+    let one :
+    up (shape_of new) (setting_of old) (tlp_of h) ((shape_of new).parent o)
+    ≡ up (shape_of new) (setting_of new) (tlp_of h) ((shape_of new).parent o) =
     tight_up old new bytes alike tight (tlp_of h) req is.formed is.nested is.few ((shape_of new).parent o) inn.present inn.port
     (ap (λ (x : Trip). unvalidated x.end) now-up ∙ ap unvalidated del) in
     answered_result old now o h room r

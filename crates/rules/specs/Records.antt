@@ -5,8 +5,8 @@ use Rattle.rules.specs.declared.Found.{Found}
 use Rattle.rules.specs.Below.{all_of, all_below, any_below, find_from}
 use Rattle.rules.specs.Bytes.{byte, bit, within}
 use Rattle.rules.specs.Snapshot.{count, base, kind, port_number, parent, own_bus, devfn, secondary, subordinate, capability, control, first, last}
-use Rattle.rules.specs.Snapshot.{closed, is_open, is_root, is_upstream, is_downstream, is_endpoint, is_port, is_bridge, bit_v, bit_b, bit_r, bit_c, bit_u, bit_t}
-use Rattle.rules.specs.Snapshot.{complex}
+use Rattle.rules.specs.Snapshot.{closed, is_open, is_root, is_upstream, is_downstream, is_endpoint, is_port}
+use Rattle.rules.specs.Snapshot.{is_bridge, bit_v, bit_b, bit_r, bit_c, bit_u, bit_t, complex}
 
 -- the n bytes from `at` on are zero
 abbrev pub zeros : List ℕ → ℕ → ℕ → Bool

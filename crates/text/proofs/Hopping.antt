@@ -49,7 +49,8 @@ module _ (w x y z : ℕ) (l : List ℕ) where
   unfolding hops_in
   one_more zero = sym (append-nil (hop_text (hop (w + 256 * (x + 256 * 0)) y)))
   one_more (suc k) =
-      rw (one_more k, hop_shift k) (append_assoc (hop_text (hop (w + 256 * (x + 256 * 0)) y)) (hops_in l k) (hop_text (hop (le 2 l (4 * k)) (byte l (4 * k + 2)))))
+      rw (one_more k, hop_shift k)
+      (append_assoc (hop_text (hop (w + 256 * (x + 256 * 0)) y)) (hops_in l k) (hop_text (hop (le 2 l (4 * k)) (byte l (4 * k + 2)))))
 
 pub hops_told : (hs : List Hop) (rest : List ℕ) → hops_in (hop_bytes hs ++ rest) (length hs) ≡ hops_text hs
 unfolding hops_in hops_text

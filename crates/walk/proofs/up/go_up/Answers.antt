@@ -20,12 +20,16 @@ go_down-requires c = (search rules, (search peer_here, omega arith))
 
 pub returns-in-Across : goal.returns-in-Across
 returns-in-Across c =
-    let x = goes_across c.loop-action.invariant c.decide.ensures c.in-Across.is c.put_hop-in-Across.ensures c.go_down.ensures.value c.go_down.ensures.buffer_after c.arrived.ensures in
+    let x = goes_across
+    c.loop-action.invariant c.decide.ensures c.in-Across.is c.put_hop-in-Across.ensures
+    c.go_down.ensures.value c.go_down.ensures.buffer_after c.arrived.ensures in
     record { value = x.says; buffer_after = x.lays }
 
 pub returns-in-Reflect : goal.returns-in-Reflect
 returns-in-Reflect c =
-    let x = goes_back c.loop-action.invariant c.decide.ensures c.in-Reflect.is c.put_hop-in-Reflect.ensures c.from_top.ensures.value c.from_top.ensures.buffer_after in
+    let x = goes_back
+    c.loop-action.invariant c.decide.ensures c.in-Reflect.is c.put_hop-in-Reflect.ensures
+    c.from_top.ensures.value c.from_top.ensures.buffer_after in
     record { value = x.says; buffer_after = x.lays }
 
 pub returns-in-Stop : goal.returns-in-Stop
@@ -35,5 +39,7 @@ returns-in-Stop c =
 
 pub returns-in-Beyond : goal.returns-in-Beyond
 returns-in-Beyond c =
-    let x = stops_beyond c.loop-action.invariant c.decide.ensures c.in-Beyond.is c.put_hop-in-Beyond.ensures c.put_hop-in-Beyond-2.ensures in
+    let x = stops_beyond
+    c.loop-action.invariant c.decide.ensures c.in-Beyond.is c.put_hop-in-Beyond.ensures
+    c.put_hop-in-Beyond-2.ensures in
     record { value = x.says; buffer_after = x.lays }

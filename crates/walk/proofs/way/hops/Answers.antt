@@ -5,7 +5,9 @@ use Rattle.walk.proofs.way.hops.Goals as goal
 
 pub returns-then-o-eq-COMPLEX : goal.returns-then-o-eq-COMPLEX
 returns-then-o-eq-COMPLEX c =
-    let x = walks_down c.args.s.now c.args.t c.args.o c.if-o-eq-COMPLEX.true c.from_top.ensures.value c.from_top.ensures.buffer_after in
+    let x = walks_down
+    c.args.s.now c.args.t c.args.o c.if-o-eq-COMPLEX.true c.from_top.ensures.value
+    c.from_top.ensures.buffer_after in
     record { value = x.says; buffer_after = x.lays }
 
 pub parent-requires : goal.parent-requires
@@ -16,5 +18,7 @@ go_up-requires c = (search rules, (search under_port, (search under_low, search 
 
 pub returns : goal.returns
 returns c =
-    let x = walks_up c.args.s.now c.args.t c.args.o c.requires.0 c.requires.1.0 c.if-o-eq-COMPLEX.false c.parent.ensures c.go_up.ensures.value c.go_up.ensures.buffer_after in
+    let x = walks_up
+    c.args.s.now c.args.t c.args.o c.requires.0 c.requires.1.0 c.if-o-eq-COMPLEX.false c.parent.ensures
+    c.go_up.ensures.value c.go_up.ensures.buffer_after in
     record { value = x.says; buffer_after = x.lays }
