@@ -2,10 +2,7 @@
 use Rattle.std.specs.Prelude.{◌≡◌, List, ℕ, length}
 use Rattle.rules.specs.Refuse.{verdict, result, written}
 use Rattle.rules.specs.Fill.{filling, record_after}
-use Rattle.rules.specs.declared.Check.{Check}
-use Rattle.rules.specs.declared.Answer.{Answer}
-use Rattle.rules.specs.declared.Fill.{Fill}
-use Rattle.rules.specs.Word.{result_fields, fill_fields, word_of, verdict_word, verdict_of, answer_fields, fill_of}
+use Rattle.rules.specs.Word.{Check, Answer, Fill, result_fields, fill_fields, word_of, verdict_word, verdict_of, answer_fields, fill_of}
 
 -- acs_check: the word is 0 for an accepted snapshot, else it has the refusal's number and index
 pub record Judged (snapshot : List ℕ) (now word : ℕ) : Type 0 where

@@ -2,81 +2,63 @@
 // word. `acs_c` exports them.
 #![tactic(auto)]
 
-ghost use Rattle.std.specs.Prelude.{◌≡◌, cond, ◌+◌, ◌*◌};
-ghost use Rattle.rules.specs.Word.{letter_number, end_fields, word_of, fields};
+ghost use Rattle.std.specs.Prelude.{◌≡◌};
+ghost use Rattle.rules.specs.Word.{number_of, refusal_fields, end_fields, word_of, fields};
 ghost use Rattle.acs.specs.Promise.{answer_word, word_of_check, word_of_fill, Judged, Routed, Filled};
 
 use config::fill::fill;
-use layout::fields::COMPLEX;
+use layout::COMPLEX;
 use route::answer::route;
-use route::refusals::refusal_number;
-use rules::{Answer, Check, Fill, Letter, Outcome};
+use rules::{Ended, Extent, Outcome, Refused};
 use snapshot::check::check;
 
-fn one_if(b: bool) -> u8
-    ensures { result ≡ cond b 1 0 }
-{
-    if b { 1 } else { 0 }
-}
-
-// The eight bytes of the answer word, from the low one up.
+// The eight bytes of the answer word, from the low one up: numbers, since this is what C is given.
 fn word(kind: u8, detail: u8, node: u16, count: u16, abort: u8) -> u64
     ensures { result ≡ word_of (fields kind detail node count abort) }
 {
-    (kind as u64)
-        + 0x100 * (detail as u64)
-        + 0x10000 * (node as u64)
-        + 0x100000000 * (count as u64)
-        + 0x1000000000000 * (abort as u64)
+    u64::from(kind)
+        + 0x100 * u64::from(detail)
+        + 0x10000 * u64::from(node)
+        + 0x100000000 * u64::from(count)
+        + 0x1000000000000 * u64::from(abort)
 }
 
-fn letter_number(l: Letter) -> u8
-    ensures { result ≡ letter_number l }
+fn refused_word(x: Refused) -> u64
+    ensures { result ≡ word_of (refusal_fields (number_of x.why) x.index) }
 {
-    match l {
-        Letter::Source => 0,
-        Letter::Translation => 1,
-        Letter::Egress => 5,
-        Letter::Validation => 7,
+    word(6, x.why.into(), x.index, 0, 0)
+}
+
+fn end_word(x: Ended) -> u64
+    ensures { result ≡ word_of (end_fields x.end x.count) }
+{
+    match x.end {
+        Outcome::Delivered(i, checked) => word(checked.into(), 0, i, x.count, 0),
+        Outcome::Host => word(2, 0, COMPLEX, x.count, 0),
+        Outcome::Unclaimed(i) => word(3, 0, i, x.count, 0),
+        Outcome::Undefined(i) => word(4, 0, i, x.count, 0),
+        Outcome::Violated(l, i, abort) => word(5, l.into(), i, x.count, abort.into()),
     }
 }
 
-fn end_word(end: Outcome, count: u16) -> u64
-    ensures { result ≡ word_of (end_fields end count) }
-{
-    match end {
-        Outcome::Delivered(i, checked) => word(one_if(checked), 0, i, count, 0),
-        Outcome::Host => word(2, 0, COMPLEX, count, 0),
-        Outcome::Unclaimed(i) => word(3, 0, i, count, 0),
-        Outcome::Undefined(i) => word(4, 0, i, count, 0),
-        Outcome::Violated(l, i, abort) => word(5, letter_number(l), i, count, one_if(abort)),
-    }
-}
-
-fn answer_word(a: Answer) -> u64
+fn answer_word(a: Result<Ended, Refused>) -> u64
     ensures { result ≡ answer_word a }
 {
-    match a {
-        Answer::Refused(why, i) => word(6, refusal_number(why), i, 0, 0),
-        Answer::Ended(end, count) => end_word(end, count),
-    }
+    a.map_or_else(refused_word, end_word)
 }
 
-fn check_word(c: Check) -> u64
+fn check_word(c: Result<(), Refused>) -> u64
     ensures { result ≡ word_of_check c }
 {
-    match c {
-        Check::Accepted => 0,
-        Check::Refused(why, i) => word(6, refusal_number(why), i, 0, 0),
-    }
+    c.map_or_else(refused_word, |()| 0)
 }
 
-fn fill_word(f: Fill) -> u64
+fn fill_word(f: Result<Extent, Refused>) -> u64
     ensures { result ≡ word_of_fill f }
 {
     match f {
-        Fill::Refused(why, i) => word(6, refusal_number(why), i, 0, 0),
-        Fill::Filled(offset, length) => word(0, 0, offset, length, 0),
+        Ok(acs) => word(0, 0, acs.offset, acs.length, 0),
+        Err(refused) => refused_word(refused),
     }
 }
 

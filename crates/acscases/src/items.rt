@@ -2,7 +2,6 @@
 // `report`'s text is printed, of any other call the answer word and the final bytes of its buffers.
 use crate::STDOUT;
 use crate::line::put_line;
-use numbers::{le_u32, put_bytes};
 
 // The most bytes of what an item lends.
 const LENT: usize = 65536;
@@ -19,51 +18,43 @@ fn query(input: &[u8]) -> bool {
     io::write_all(STDOUT, &text[..n])
 }
 
+// The slice that the arguments begin with, and what follows it.
+fn next_slice(args: &[u8]) -> Option<(&[u8], &[u8])> {
+    let (prefix, rest) = args.split_first_chunk::<4>()?;
+    rest.split_at_checked(u32::from_le_bytes(*prefix) as usize)
+}
+
+// The two slices that the arguments are.
+fn two_slices(args: &[u8]) -> Option<(&[u8], &[u8])> {
+    let (first, rest) = next_slice(args)?;
+    let (second, after) = next_slice(rest)?;
+    if after.is_empty() {
+        Some((first, second))
+    } else {
+        None
+    }
+}
+
 // Call 2: the image, and the record that is filled from it.
-fn fill_and_put(image: &[u8], record: &mut [u8]) -> bool {
+fn fill(image: &[u8], given: &[u8]) -> bool {
+    if given.len() > LENT {
+        return bad();
+    }
+    let mut room = io::large_buffer();
+    let record = &mut room[..given.len()];
+    record.copy_from_slice(given);
     let word = acs::acs_fill(image, record);
     put_line(word, record)
 }
 
-fn fill(image: &[u8], given: &[u8]) -> bool {
-    let mut record = io::large_buffer();
-    let n = given.len();
-    if n <= LENT {
-        put_bytes(&mut record, 0, n, given, 0);
-        return fill_and_put(image, &mut record[..n]);
-    }
-    bad()
-}
-
-// The record's slice is what is left.
-fn fill_record(image: &[u8], rest: &[u8]) -> bool {
-    if 4 <= rest.len() {
-        if le_u32(rest, 0) as usize == rest.len() - 4 {
-            return fill(image, &rest[4..]);
-        }
-    }
-    bad()
-}
-
-fn fill_image(args: &[u8]) -> bool {
-    if 4 <= args.len() {
-        let end = 4 + le_u32(args, 0) as usize;
-        if end <= args.len() {
-            return fill_record(&args[4..end], &args[end..]);
-        }
-    }
-    bad()
-}
-
+// By the item's first byte, the number of its call.
 pub fn answer(item: &[u8]) -> bool {
-    if 1 <= item.len() {
-        let call = item[0];
-        if call == 0 {
-            return query(&item[1..]);
-        }
-        if call == 2 {
-            return fill_image(&item[1..]);
-        }
+    match item.split_first() {
+        Some((0, args)) => query(args),
+        Some((2, args)) => match two_slices(args) {
+            Some((image, given)) => fill(image, given),
+            None => bad(),
+        },
+        _ => bad(),
     }
-    bad()
 }

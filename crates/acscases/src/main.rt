@@ -5,59 +5,28 @@
 mod items;
 mod line;
 
-ghost use Rattle.std.specs.Prelude.{◌≡◌, ◌≤◌, length};
+ghost use Rattle.std.specs.Prelude.{◌≡◌, length};
 
-use numbers::le_u32;
-
+// Read and written by the kit's `io`, as in `acsroute`.
 const STDIN: i32 = 0;
 
 const STDOUT: i32 = 1;
 
-// Reads n bytes to the start of `room`. Whether they were there.
-fn read_whole(n: usize, room: &mut [u8]) -> bool
-    requires { n ≤ length room.old }
-{
-    let got = io::read_full(STDIN, &mut room[..n]);
-    got == n
+// Reads as many bytes as there is room for. Whether they were there.
+fn read_whole(room: &mut [u8]) -> bool {
+    let n = room.len();
+    io::read_full(STDIN, room) == n
 }
 
 // Passes over n bytes. Whether they were there.
-fn pass(n: usize) -> bool
-    requires { n ≤ 4096 }
-{
+fn pass(n: usize) -> bool {
     let mut chunk = io::buffer();
-    read_whole(n, &mut chunk)
-}
-
-fn pass_all(count: usize) -> bool {
-    let mut left = count;
-    while left > 4096 {
-        if pass(4096) {
-            left -= 4096;
-        } else {
+    for _ in 0..n / 4096 {
+        if !read_whole(&mut chunk) {
             return false;
         }
     }
-    pass(left)
-}
-
-// An item for which there is no room.
-fn answer_long(length: usize) -> bool {
-    if pass_all(length) {
-        return items::bad();
-    }
-    false
-}
-
-// Answers an item of this length, and whether to go on.
-fn answer_item(length: usize, room: &mut [u8]) -> bool {
-    if length <= room.len() {
-        if read_whole(length, room) {
-            return items::answer(&room[..length]);
-        }
-        return false;
-    }
-    answer_long(length)
+    read_whole(&mut chunk[..n % 4096])
 }
 
 // Room for an item.
@@ -67,22 +36,26 @@ fn room() -> [u8; 131072]
     [0; 131072]
 }
 
-// Answers one item, and whether to go on.
-fn answer() -> bool {
-    let mut prefix = [0u8; 4];
-    let got = io::read_full(STDIN, &mut prefix);
-    if got < 4 {
-        return false;
-    }
+// Answers an item of this length, and whether to go on. One for which there is no room is passed over.
+fn answer_item(length: usize) -> bool {
     let mut room = room();
-    answer_item(le_u32(&prefix, 0) as usize, &mut room)
+    if length > room.len() {
+        return pass(length) && items::bad();
+    }
+    read_whole(&mut room[..length]) && items::answer(&room[..length])
 }
 
-// A proved loop has to end, and nothing says that a stream does: the turns are counted down from a
-// number that no run uses up.
+// Answers one item, and whether to go on. (Of a `u32` no `usize` is made by `From`.)
+fn answer() -> bool {
+    let mut prefix = [0u8; 4];
+    read_whole(&mut prefix) && answer_item(u32::from_le_bytes(prefix) as usize)
+}
+
+// A proved loop has to end, and nothing says that a stream does: no run uses up so many turns.
 fn main() {
-    let mut turns = u64::MAX;
-    while turns > 0 && answer() {
-        turns -= 1;
+    for _ in 0..u64::MAX {
+        if !answer() {
+            break;
+        }
     }
 }

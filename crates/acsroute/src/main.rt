@@ -1,6 +1,7 @@
 // Answers the one query on standard input. What it prints is `report`'s text.
 #![tactic(auto)]
 
+// Read and written by the kit's `io`, which stands on two declarations of C: std's stand on eight.
 const STDIN: i32 = 0;
 
 const STDOUT: i32 = 1;

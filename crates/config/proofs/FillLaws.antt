@@ -1,65 +1,53 @@
 -- A fill, refusal by refusal.
-use mathlib.Core.Path.{◌≡◌, sym, ◌∙◌}
-use mathlib.Core.Bool.{Bool, true, false}
+use mathlib.Core.Path.{◌≡◌, ◌∙◌}
+use mathlib.Core.Bool.{false}
 use mathlib.Core.List.{List}
 use Prim.Native.Nat.{ℕ}
 use lib.Dec.{eqb}
 use lib.ListN.{length}
 use borrow.Author.Tests.{eq-eqb, ne_eqb}
-use Rattle.rules.specs.declared.Structure.{Structure}
-use Rattle.rules.specs.declared.Structure.TheVariants.{Stands, Absent, Bad}
-use Rattle.rules.specs.declared.Fill.{Fill}
-use Rattle.rules.specs.declared.Fill.TheVariants.{Refused, Filled}
+use Rattle.std.specs.Prelude.{Option, Some, Ok, Err}
+use Rattle.rules.specs.declared.Extent.{Extent}
 use Rattle.rules.specs.declared.Refusal.TheVariants.{Length, Capabilities}
-use Rattle.rules.specs.Image.{image_size, acs_structure, part_of}
+use Rattle.rules.specs.Image.{Structure, bad, image_size, acs_structure, part_of}
 use Rattle.rules.specs.Refuse.{through}
-use Rattle.rules.specs.Fill.{record_size, fill_all, filled_fields, filled, whole_sizes, is_sound, listed, filling, record_after}
-use Rattle.rules.specs.Word.{fill_of}
+use Rattle.rules.specs.Fill.{record_size, fill_all, filled_fields, filled, whole_sizes, extent_of, listed, filling, record_after}
+use Rattle.rules.specs.Word.{Fill, refused_for, fill_of}
 use Rattle.rules.proofs.Logic.{and_right_false}
-
-pub says_stands : (at n : ℕ) {acs : Structure} → acs ≡ Stands at n → fill_of (Filled at n) ≡ listed acs
-unfolding listed through
-says_stands at n e = rw e
-
-pub says_absent : {acs : Structure} → acs ≡ Absent → fill_of (Filled 0 0) ≡ listed acs
-unfolding listed through
-says_absent e = rw e
-
-pub says_bad : {acs : Structure} → acs ≡ Bad → fill_of (Refused Capabilities 0) ≡ listed acs
-unfolding listed through
-says_bad e = rw e
+use Rattle.config.proofs.StructureLaws.{part_of_extent}
 
 -- what the call answers, and what it leaves of the record
 pub record Done (image r : List ℕ) (f : Fill) (after : List ℕ) : Type 0 where
   pub says : fill_of f ≡ filling image r
   pub leaves : after ≡ record_after (filling image r) image r
 
-pub told : {image r after : List ℕ} {f : Fill} → Done image r f after
-    → (fill_of f ≡ filling image r) × (after ≡ record_after (filling image r) image r)
-told d = (d.says, d.leaves)
+module _ (image r : List ℕ) where
+  wrong_size : {f : Fill} → whole_sizes image r ≡ false → f ≡ Err (refused_for Length) → Done image r f r
+  unfolding filling through
+  wrong_size w e = record { says = rw (e, w); leaves = rw w }
 
-wrong_size : (image r : List ℕ) → whole_sizes image r ≡ false → Done image r (Refused Length 0) r
-unfolding filling through
-wrong_size image r w = record { says = rw w; leaves = rw w }
+  pub wrong_image : {f : Fill} → (length image ≡ image_size → ⊥) → f ≡ Err (refused_for Length) → Done image r f r
+  unfolding whole_sizes
+  wrong_image h = wrong_size (rw (ne_eqb (length image) image_size h))
 
-pub wrong_image : (image r : List ℕ) → (length image ≡ image_size → ⊥) → Done image r (Refused Length 0) r
-unfolding whole_sizes
-wrong_image image r h = wrong_size image r (rw (ne_eqb (length image) image_size h))
+  pub wrong_record : {f : Fill} → (length r ≡ record_size → ⊥) → f ≡ Err (refused_for Length) → Done image r f r
+  unfolding whole_sizes
+  wrong_record h = wrong_size (and_right_false (eqb (length image) image_size) _ (ne_eqb (length r) record_size h))
 
-pub wrong_record : (image r : List ℕ) → (length r ≡ record_size → ⊥) → Done image r (Refused Length 0) r
-unfolding whole_sizes
-wrong_record image r h = wrong_size image r (and_right_false (eqb (length image) image_size) _ (ne_eqb (length r) record_size h))
+  module _ (i : length image ≡ image_size) (l : length r ≡ record_size) where
+    sized : {acs : Structure} → acs ≡ acs_structure image → filling image r ≡ listed acs
+    unfolding filling whole_sizes through
+    sized e = rw (eq-eqb (length image) image_size i, eq-eqb (length r) record_size l, e)
 
-module _ (image r : List ℕ) {acs : Structure} (i : length image ≡ image_size) (l : length r ≡ record_size) (e : acs ≡ acs_structure image) where
-  sized : filling image r ≡ listed acs
-  unfolding filling whole_sizes through
-  sized = rw (eq-eqb (length image) image_size i, eq-eqb (length r) record_size l, e)
+    pub refuses : {f : Fill} → bad ≡ acs_structure image → f ≡ Err (refused_for Capabilities) → Done image r f r
+    unfolding listed through
+    refuses e h = record { says = rw (sized e, h); leaves = rw (sized e) }
 
-  pub fills : {f : Fill} {s : Bool} {part after : List ℕ} → s ≡ is_sound acs → s ≡ true → part ≡ part_of image acs
-      → after ≡ fill_all (filled_fields image part) r → fill_of f ≡ listed acs → Done image r f after
-  unfolding listed through filled
-  fills hs p hp ha hf = record { says = hf ∙ sym sized; leaves = ha ∙ rw (sized, sym hs ∙ p, hp, e) }
-
-  pub refuses : {f : Fill} {s : Bool} → s ≡ is_sound acs → s ≡ false → fill_of f ≡ listed acs → Done image r f r
-  unfolding listed through
-  refuses hs q hf = record { says = hf ∙ sym sized; leaves = rw (sized, sym hs ∙ q) }
+    pub fills : {f : Fill} {found : Option Extent} {part after : List ℕ} → ◌≡◌ {A = Structure} (Ok found) (acs_structure image)
+        → f ≡ Ok (extent_of (Ok found))
+        → part ≡ part_of image (Ok (Some (extent_of (Ok found)))) → after ≡ fill_all (filled_fields image part) r → Done image r f after
+    unfolding listed through filled
+    fills {found} e h hp ha = record {
+      says = rw (sized e, h);
+      leaves = ha ∙ rw (sized e, hp, part_of_extent image (Ok found), ← e);
+    }

@@ -1,5 +1,4 @@
-pub mod WindowsLaws
-pub mod StructureLaws
+pub mod FillLaws
 pub mod ListLaws
 pub mod RecordLaws
-pub mod FillLaws
+pub mod StructureLaws

@@ -2,23 +2,14 @@
 use mathlib.Core.Path.{◌≡◌, refl, sym, ◌∙◌, ap, subst}
 use mathlib.Core.Bool.{Bool, true, false, cond}
 use mathlib.Core.List.{List, [], ◌∷◌}
-use Prim.Native.Nat.{ℕ, zero, suc, ◌+◌, ◌-◌, ◌%◌, ◌≤◌, ◌<◌}
+use Prim.Native.Nat.{ℕ, zero, suc, ◌+◌, ◌-◌, ◌≤◌, ◌<◌}
 use native.Mathlib.Omega.{arith}
-use lib.Dec.{eqb, leb}
+use lib.Dec.{eqb}
 use borrow.Author.Tests.{ne_eqb, eqb-true}
-use Rattle.rules.specs.declared.Structure.{Structure}
-use Rattle.rules.specs.declared.Structure.TheVariants.{Absent, Bad}
-use Rattle.rules.specs.Image.{image_size, enough_steps, list_start, next_offset, is_offset, is_among, is_acs, structure_at, follow, acs_structure}
-use Rattle.rules.proofs.Logic.{either, both, or_case, contradiction}
-use Rattle.config.specs.Chain.{off_list, chain}
-
-pub list_ends : {at : ℕ} → at ≡ 0 → Absent ≡ off_list at
-unfolding off_list
-list_ends e = rw e
-
-pub off_list_lem : {at : ℕ} → (at ≡ 0 → ⊥) → Bad ≡ off_list at
-unfolding off_list
-off_list_lem {at} f = rw (ne_eqb at 0 f)
+use Rattle.rules.specs.Image.{Structure, absent, bad, image_size, enough_steps, list_start, next_offset, is_offset, is_among, is_acs}
+use Rattle.rules.specs.Image.{structure_at, follow, acs_structure}
+use Rattle.rules.proofs.Logic.{either, or_case, contradiction}
+use Rattle.config.specs.Chain.{chain}
 
 -- the header at an offset leads on to the next
 record Leads (image : List ℕ) (at next : ℕ) : Type 0 where
@@ -36,7 +27,7 @@ then (one l) m = more l (one m)
 then (more l p) m = more l (then p m)
 
 -- an offset that leads back to itself leads nowhere else
-round : (image : List ℕ) (steps at : ℕ) → Path image at at → chain image steps at ≡ Bad
+round : (image : List ℕ) (steps at : ℕ) → Path image at at → chain image steps at ≡ bad
 unfolding chain
 round image zero at p = refl
 round image (suc steps) at (one l) = rw (l.fine, l.other, l.is) (round image steps at (one l))
@@ -62,7 +53,7 @@ back image (x ∷ v) at p (q, h) =
 -- the two walks come to the same
 same_walk : (image : List ℕ) (steps : ℕ) (visited : List ℕ) (at : ℕ) → AllLead image visited at
     → follow image steps visited at ≡ chain image steps at
-unfolding follow chain off_list
+unfolding follow chain
 same_walk image zero visited at h = refl
 same_walk image (suc steps) visited at h =
     either (eqb at 0) (λ p. rw (eqb-true at 0 p)) (λ some.
@@ -74,7 +65,7 @@ same_walk image (suc steps) visited at h =
     (λ q. rw (some, q)))
   where
     round_here : is_offset at ≡ true → Path image at at
-        → cond (is_acs image at) (structure_at image at) (chain image steps (next_offset image at)) ≡ Bad
+        → cond (is_acs image at) (structure_at image at) (chain image steps (next_offset image at)) ≡ bad
     round_here fine p = sym (rw fine) ∙ round image (suc steps) at p
 
 -- The loop has read `counter` headers and stands at an offset; the rest of the walk is owed.
@@ -94,28 +85,32 @@ module _ {image : List ℕ} {at counter : ℕ} (w : Walking image at counter) wh
       let m : suc (enough_steps - (counter + 1)) ≡ enough_steps - counter = omega arith in
       ap (λ (n : ℕ). chain image n at) m ∙ w.owes
 
-  pub leaves_list : {r : Structure} {o : Bool} {bound : ℕ} → counter < bound → bound ≤ enough_steps → o ≡ is_offset at → o ≡ false
-      → r ≡ off_list at → r ≡ acs_structure image
+  pub list_over : {bound : ℕ} → counter < bound → bound ≤ enough_steps → at ≡ 0 → absent ≡ acs_structure image
   unfolding chain
-  leaves_list l few h q e = e ∙ sym (rw (sym h ∙ q)) ∙ turn l few
+  list_over l few e = sym (rw e) ∙ turn l few
 
-  pub first_found : {r : Structure} {o a : Bool} {bound : ℕ} → counter < bound → bound ≤ enough_steps → o ≡ is_offset at → o ≡ true
-      → a ≡ is_acs image at → a ≡ true → r ≡ structure_at image at → r ≡ acs_structure image
+  pub leaves_list : {bound : ℕ} → counter < bound → bound ≤ enough_steps → is_offset at ≡ false → (at ≡ 0 → ⊥) → bad ≡ acs_structure image
   unfolding chain
-  first_found l few h p i q e = e ∙ sym (rw (sym h ∙ p, sym i ∙ q)) ∙ turn l few
+  leaves_list l few q z = sym (rw (q, ne_eqb at 0 z)) ∙ turn l few
 
-  pub walks_on : {next : ℕ} {o a : Bool} {bound : ℕ} → counter < bound → bound ≤ enough_steps → o ≡ is_offset at → o ≡ true
-      → a ≡ is_acs image at → a ≡ false → next ≡ next_offset image at → next < image_size → Walking image next (counter + 1)
+  -- the header that stands there, in the code's words
+  pub first_found : {bytes : List ℕ} {place : ℕ} {r : Structure} {a : Bool} {bound : ℕ} → counter < bound → bound ≤ enough_steps
+      → (is_offset at ≡ true) × ((place ≡ at) × (bytes ≡ image))
+      → a ≡ is_acs bytes place → a ≡ true → r ≡ structure_at bytes place → r ≡ acs_structure image
   unfolding chain
-  walks_on l few h p i q e in_image =
-      record { inside = in_image; upto = omega arith; owes = rw e (sym (rw (sym h ∙ p, sym i ∙ q)) ∙ turn l few) }
+  first_found l few (p, (b, c)) i q e =
+      let i' = rw (b, c) at i in
+      let e' = rw (b, c) at e in e' ∙ sym (rw (p, sym i' ∙ q)) ∙ turn l few
 
-  pub goes_round : {bound : ℕ} → bound ≤ counter → enough_steps ≤ bound → Bad ≡ acs_structure image
+  pub walks_on : {bytes : List ℕ} {place next : ℕ} {a : Bool} {bound : ℕ} → counter < bound → bound ≤ enough_steps
+      → (is_offset at ≡ true) × ((place ≡ at) × (bytes ≡ image))
+      → a ≡ is_acs bytes place → a ≡ false → next ≡ next_offset bytes place → next < image_size → Walking image next (counter + 1)
   unfolding chain
-  goes_round l many = let m : 0 ≡ enough_steps - counter = omega arith in ap (λ (n : ℕ). chain image n at) m ∙ w.owes
+  walks_on l few (p, (b, c)) i q e in_image =
+      let i' = rw (b, c) at i in
+      let e' = rw (b, c) at e in
+      record { inside = in_image; upto = omega arith; owes = rw e' (sym (rw (p, sym i' ∙ q)) ∙ turn l few) }
 
-  -- a multiple of 4 below 4,096 has a whole header
-  pub header_there : {o : Bool} → o ≡ is_offset at → o ≡ true → at + 4 ≤ image_size
-  header_there h p =
-      let i = w.inside in
-      let e : at % 4 ≡ 0 = eqb-true (at % 4) 0 (both (leb list_start at) (eqb (at % 4) 0) (sym h ∙ p)).1 in omega arith
+  pub goes_round : (bound : ℕ) → bound ≤ counter → enough_steps ≤ bound → bad ≡ acs_structure image
+  unfolding chain
+  goes_round bound l many = let m : 0 ≡ enough_steps - counter = omega arith in ap (λ (n : ℕ). chain image n at) m ∙ w.owes

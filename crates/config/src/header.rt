@@ -1,29 +1,71 @@
-// The header of an extended capability.
-ghost use Rattle.std.specs.Prelude.{◌≡◌, ◌+◌, ◌≤◌, ◌<◌, length};
+// The header of an extended capability, and the ACS structure that one of ACS begins.
+ghost use Rattle.std.specs.Prelude.{◌≡◌, ◌+◌, ◌≤◌, ◌<◌};
 ghost use Rattle.rules.specs.Image as rule;
 
-use numbers::le_u16;
+use crate::image::Image;
+use layout::acs::Acs;
+use numbers::le;
+use rules::{Extent, Refusal};
 
-// The header at this offset is one of ACS.
-pub fn is_acs(image: &[u8], at: u16) -> bool
-    requires { (length image.now ≡ rule.image_size) × (at + 4 ≤ rule.image_size) }
-    ensures { result ≡ rule.is_acs image.now at }
-{
-    le_u16(image, at as usize) == 0x000D
+// The header at this offset of an image.
+#[derive(Clone, Copy)]
+pub struct Header<'a> {
+    pub image: Image<'a>,
+    pub at: u16,
+    pub ghost there: { at + 4 ≤ rule.image_size },
 }
 
-// The version in the header at this offset.
-pub fn version(image: &[u8], at: u16) -> u16
-    requires { (length image.now ≡ rule.image_size) × (at + 4 ≤ rule.image_size) }
-    ensures { result ≡ rule.capability_version image.now at }
+// Header and registers take 8 bytes; where the Capability has E, 4 more for each 32 bits of the vector.
+fn structure_length(capability: Acs) -> u16
+    ensures value { result ≡ rule.structure_length capability.0 }
+    ensures upper_bound { result ≤ 40 }
 {
-    le_u16(image, at as usize + 2) % 16
+    if capability.on(Acs::E) {
+        return 8 + 4 * ((capability.size() + 31) / 32);
+    }
+    8
 }
 
-// The next offset in the header at this one.
-pub fn next_offset(image: &[u8], at: u16) -> u16
-    requires { (length image.now ≡ rule.image_size) × (at + 4 ≤ rule.image_size) }
-    ensures { (result ≡ rule.next_offset image.now at) × (result < rule.image_size) }
-{
-    le_u16(image, at as usize + 2) / 16
+impl Header<'_> {
+    // It is one of ACS.
+    pub(crate) fn is_acs(self) -> bool
+        ensures { result ≡ rule.is_acs self.entry.image.bytes.now self.entry.at }
+    {
+        le::<u16>(self.image.bytes, usize::from(self.at)) == 0x000D
+    }
+
+    pub(crate) fn version(self) -> u16
+        ensures { result ≡ rule.capability_version self.entry.image.bytes.now self.entry.at }
+    {
+        le::<u16>(self.image.bytes, usize::from(self.at) + 2) % 16
+    }
+
+    pub(crate) fn next_offset(self) -> u16
+        ensures value { result ≡ rule.next_offset self.entry.image.bytes.now self.entry.at }
+        ensures upper_bound { result < rule.image_size }
+    {
+        le::<u16>(self.image.bytes, usize::from(self.at) + 2) / 16
+    }
+
+    // The ACS structure that it begins.
+    #[tactic(auto, unfolding(rules::specs::Image::structure_at))]
+    pub fn structure(self) -> Result<Option<Extent>, Refusal>
+        ensures { result ≡ rule.structure_at self.entry.image.bytes.now self.entry.at }
+    {
+        let image = self.image.bytes;
+        let from = usize::from(self.at);
+        if image.len() < from + 8 {
+            return Err(Refusal::Capabilities); // its Capability is not there
+        }
+        let length = structure_length(Acs(le::<u16>(image, from + 4)));
+        if self.version() == 1 {
+            if from + usize::from(length) <= image.len() {
+                return Ok(Some(Extent {
+                    offset: self.at,
+                    length,
+                }));
+            }
+        }
+        Err(Refusal::Capabilities)
+    }
 }

@@ -2,10 +2,9 @@
 // what they give.
 #![tactic(auto)]
 
-mod buses;
 pub mod fill;
-mod header;
-pub mod list;
+pub mod header;
+pub mod image;
+mod list;
 mod record;
-pub mod structure;
 mod windows;

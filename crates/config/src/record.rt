@@ -1,17 +1,18 @@
 // The fields put into a record.
 ghost use Rattle.std.specs.Prelude.{◌≡◌, [], ◌∷◌, ◌+◌, ◌≤◌, length};
 ghost use Rattle.rules.specs.Bytes.{laid};
-ghost use Rattle.rules.specs.Image.{image_size};
-ghost use Rattle.rules.specs.Fill.{record_size, range_bytes, acs_fields, fill_all, filled_fields};
+ghost use Rattle.rules.specs.Fill.{range_bytes, acs_fields, fill_all, filled_fields};
 
-use crate::buses::buses;
-use crate::windows::{memory_window, prefetchable_window};
+use crate::image::Image;
 use numbers::{put_bytes, put_le_u64};
 use rules::{Buses, Range};
 
+// The bytes of a record.
+pub const RECORD: usize = 144;
+
 // Own bus, secondary and subordinate.
-fn put_buses(into: &mut [u8], b: Buses)
-    requires { length into.old ≡ record_size }
+#[tactic(auto, unfolding(rules::specs::Bytes::laid))]
+fn put_buses(into: &mut [u8; RECORD], b: Buses)
     ensures { into.new ≡ laid (laid into.old 4 (b.primary.0 ∷ [])) 6 (b.secondary.0 ∷ b.subordinate.0 ∷ []) }
 {
     into[4] = b.primary.0;
@@ -20,8 +21,7 @@ fn put_buses(into: &mut [u8], b: Buses)
 }
 
 // Capability, Control and the vector of an ACS structure; where a byte is not in it, 0.
-fn put_acs(into: &mut [u8], acs: &[u8])
-    requires { length into.old ≡ record_size }
+fn put_acs(into: &mut [u8; RECORD], acs: &[u8])
     ensures { into.new ≡ fill_all (acs_fields acs.now) into.old }
 {
     put_bytes(into, 8, 2, acs, 4);
@@ -39,12 +39,11 @@ fn put_range(into: &mut [u8], at: usize, r: Range)
 }
 
 // All that is filled, of an image and the ACS structure in it.
-pub fn put_fields(image: &[u8], acs: &[u8], into: &mut [u8])
-    requires { (length image.now ≡ image_size) × (length into.old ≡ record_size) }
-    ensures { into.new ≡ fill_all (filled_fields image.now acs.now) into.old }
+pub fn put_fields(into: &mut [u8; RECORD], image: Image<'_>, acs: &[u8])
+    ensures { into.new ≡ fill_all (filled_fields image.entry.bytes.now acs.now) into.old }
 {
-    put_buses(into, buses(image));
+    put_buses(into, image.buses());
     put_acs(into, acs);
-    put_range(into, 48, memory_window(image));
-    put_range(into, 64, prefetchable_window(image));
+    put_range(into, 48, image.memory_window());
+    put_range(into, 64, image.prefetchable_window());
 }

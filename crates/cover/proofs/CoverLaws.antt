@@ -1,38 +1,26 @@
 -- The laws of the crate cover: covering and the searches by it, from what the readers and the branches of the code say.
-use mathlib.Core.Path.{◌≡◌, refl, sym, ◌∙◌, ap}
-use mathlib.Core.Bool.{Bool, true, false, ◌&&◌, not, and-true, and-false}
+use mathlib.Core.Path.{◌≡◌, sym, ◌∙◌, ap}
+use mathlib.Core.Bool.{Bool, true, false, not, and-false}
 use mathlib.Core.List.{List}
-use Prim.Native.Nat.{ℕ, ◌+◌, ◌≤◌, ◌<◌}
+use Prim.Native.Nat.{ℕ, ◌+◌, ◌-◌, ◌≤◌, ◌<◌}
 use native.Mathlib.Omega.{arith}
-use lib.Dec.{eqb, leb, ltb}
+use lib.Dec.{eqb, ltb}
 use borrow.Author.Tests.{eq-eqb, ne_eqb, ltb-true}
 use Rattle.rules.specs.declared.Bus.{Bus}
-use Rattle.rules.specs.declared.Found.{Found}
-use Rattle.rules.specs.declared.Found.TheVariants.{At}
 use Rattle.rules.specs.declared.Target.{Target}
 use Rattle.rules.specs.declared.Target.TheVariants.{Address, Id}
 use Rattle.rules.specs.declared.Tlp.{Tlp}
-use Rattle.rules.specs.Snapshot.{HasRecord, count, kind, parent, own_bus, devfn, secondary, subordinate, first, last, closed, is_root, is_endpoint, is_port}
+use Rattle.rules.specs.Snapshot.{count, kind, parent, own_bus, devfn, secondary, subordinate, first, last, closed, is_root, is_endpoint, is_port}
+use Rattle.rules.specs.Below.{any_below, find_from}
+use Rattle.rules.specs.Bytes.{within}
 use Rattle.rules.specs.Records.{range_fine, ranges_fine, Keeps}
 use Rattle.rules.specs.Fabric.{in_range, holds, shape_of}
 use Rattle.rules.specs.Cover.{covers_target, covers, is_peer, peer_of, is_entry, entry_for, is_child, child_for, is_way_on, way_on}
 use Rattle.rules.specs.Accepted.{Accepted}
-use Rattle.rules.proofs.Logic.{contradiction, either, or_case, and_right_false, then_and, else_and}
-use Rattle.rules.proofs.Loops.{AnySoFar, some_any, any_passes_by, any_cut, all_at, Searching, find_all, find_after, find_behind}
+use Rattle.rules.proofs.Logic.{contradiction, either, or_case, and_right_false}
+use Rattle.rules.proofs.Loops.{any_cut, all_at, find_all, find_after, find_behind}
 use Rattle.rules.proofs.Sound.{all_keep, kind_range, bridge}
-use Rattle.rules.proofs.Steps.{found_in}
 use Rattle.cover.specs.Parts.{SiblingsFrom, ranges_used}
-
--- how many ranges a node uses
-
-pub used_endpoint : (k : ℕ) {x : Bool} → x ≡ is_endpoint k → x ≡ true → 6 ≡ ranges_used k
-used_endpoint k h on = rw (sym h ∙ on)
-
-pub used_bridge : (k : ℕ) {x : Bool} → x ≡ is_endpoint k → x ≡ false → 2 ≡ ranges_used k
-used_bridge k h off = rw (sym h ∙ off)
-
-used_most : (k : ℕ) → ranges_used k ≤ 6
-used_most k = either (is_endpoint k) (λ p. rw p (omega arith)) (λ q. rw q (omega arith))
 
 -- the ranges of a bridge that are no windows are closed, so that they have no address
 closed_behind : (s : List ℕ) (i : ℕ) → Keeps s i → is_endpoint (kind s i) ≡ false → (a k : ℕ) → 2 ≤ k → k < 6 → in_range s i a k ≡ false
@@ -45,93 +33,90 @@ closed_behind s i ok n a k low l =
     (λ f. contradiction f (rw (bridge (kind s i) w.0 w.1 n, no)))
 
 -- so that the ranges that a node uses decide
-module _ (s : List ℕ) (i a d : ℕ) {n k : ℕ} (hn : n ≡ ranges_used d) where
-  pub used_six : k < n → k < 6
-  used_six l = let m = used_most d in omega arith
+pub used_decide : (s : List ℕ) (i a : ℕ) {z : List ℕ} {j n : ℕ} → Accepted s → i < count s → z ≡ s → j ≡ i → n ≡ ranges_used (kind z j)
+    → any_below n (in_range z j a) ≡ covers_target (shape_of s) (Address a) i
+unfolding shape_of holds
+used_decide s i a {z} {j} {n} ok l es ei hn =
+    ap (λ (x : List ℕ). any_below n (in_range x j a)) es ∙ ap (λ (m : ℕ). any_below n (in_range s m a)) ei
+    ∙ sym (any_cut (in_range s i a) n 6 (used_most n used) closed_above)
+  where
+    used : n ≡ ranges_used (kind s i)
+    used = hn ∙ ap ranges_used (ap (λ (x : List ℕ). kind x j) es ∙ ap (kind s) ei)
 
-  pub used_hit : {b : Bool} → k < n → b ≡ in_range s i a k → b ≡ true → true ≡ covers_target (shape_of s) (Address a) i
-  unfolding shape_of holds
-  used_hit l e on = sym (some_any 6 (in_range s i a) k (used_six l) (sym e ∙ on))
+    used_most : (m : ℕ) → m ≡ ranges_used (kind s i) → m ≤ 6
+    used_most m e = either (is_endpoint (kind s i)) (λ p. let six : m ≡ 6 = e ∙ rw p in omega arith) (λ q. let two : m ≡ 2 = e ∙ rw q in omega arith)
 
-  pub used_missed : {b : Bool} → AnySoFar (in_range s i a) 6 k false → k < n → b ≡ in_range s i a k → b ≡ false
-      → AnySoFar (in_range s i a) 6 (k + 1) false
-  used_missed f l e off = any_passes_by f (used_six l) e off
+    closed_above : (k : ℕ) → n ≤ k → k < 6 → in_range s i a k ≡ false
+    closed_above k m b =
+        either (is_endpoint (kind s i))
+        (λ p. let six : n ≡ 6 = used ∙ rw p in absurd (omega arith))
+        (λ q. let two : n ≡ 2 = used ∙ rw q in closed_behind s i (all_keep s ok.faultless i l) q a k (omega arith) b)
 
-  pub all_missed : Accepted s → i < count s → d ≡ kind s i → AnySoFar (in_range s i a) 6 k false → n ≤ k
-      → false ≡ covers_target (shape_of s) (Address a) i
-  unfolding shape_of holds
-  all_missed ok l hd f done =
-      let keeps = all_keep s ok.faultless i l in
-      let used : n ≡ ranges_used (kind s i) = hn ∙ ap ranges_used hd in
-      f.so_far ∙ sym (any_cut (in_range s i a) k 6 f.within (λ j m b.
-      either (is_endpoint (kind s i))
-      (λ p. let six : n ≡ 6 = used ∙ rw p in absurd (omega arith))
-      (λ q. let two : n ≡ 2 = used ∙ rw q in closed_behind s i keeps q a j (omega arith) b)))
+module _ (s : List ℕ) (bus : Bus) (d i : ℕ) where
+  pub endpoint_yes : {x : Bool} → is_endpoint (kind s i) ≡ true → own_bus s i ≡ bus.0 → x ≡ eqb (devfn s i) d
+      → x ≡ covers_target (shape_of s) (Id bus d) i
+  unfolding shape_of
+  endpoint_yes on e h = rw (on, eq-eqb (own_bus s i) bus.0 e) h
 
-pub at_endpoint : (s : List ℕ) (bus : Bus) (d i : ℕ) {k o p : ℕ} {e : Bool} → k ≡ kind s i → e ≡ is_endpoint k → e ≡ true
-    → o ≡ own_bus s i → p ≡ devfn s i → (eqb o bus.0 && eqb p d) ≡ covers_target (shape_of s) (Id bus d) i
-unfolding shape_of
-at_endpoint s bus d i hk he on ho hp = rw (ho, hp, sym (he ∙ ap is_endpoint hk) ∙ on)
+  pub endpoint_no : {x : Bool} → is_endpoint (kind s i) ≡ true → eqb (own_bus s i) bus.0 ≡ false → x ≡ false
+      → x ≡ covers_target (shape_of s) (Id bus d) i
+  unfolding shape_of
+  endpoint_no on e h = rw (on, e) h
 
-pub at_bridge : (s : List ℕ) (bus : Bus) (d i : ℕ) {k a z : ℕ} {e : Bool} → k ≡ kind s i → e ≡ is_endpoint k → e ≡ false
-    → a ≡ secondary s i → z ≡ subordinate s i → (leb a bus.0 && leb bus.0 z) ≡ covers_target (shape_of s) (Id bus d) i
-unfolding shape_of
-at_bridge s bus d i hk he off ha hz = rw (ha, hz, sym (he ∙ ap is_endpoint hk) ∙ off)
+  pub at_bridge : {x : Bool} → is_endpoint (kind s i) ≡ false → x ≡ within (secondary s i) bus.0 (subordinate s i)
+      → x ≡ covers_target (shape_of s) (Id bus d) i
+  unfolding shape_of
+  at_bridge off h = rw off h
 
 pub by_target : (s : List ℕ) (t : Tlp) (i : ℕ) {g : Target} {r : Bool} → t.target ≡ g → r ≡ covers_target (shape_of s) g i
     → r ≡ covers (shape_of s) t i
 unfolding covers
 by_target s t i e h = rw e h
 
--- the parents are compared first, and then what is_peer tests of a record with the same parent
-module _ (s : List ℕ) (t : Tlp) (p q : ℕ) {m n : ℕ} (hm : m ≡ parent s q) (hn : n ≡ parent s p) where
-  pub peer_apart : (m ≡ n → ⊥) → false ≡ is_peer (shape_of s) t p q
+-- the tests of the searches, where the code leaves them
+
+module _ (s : List ℕ) (t : Tlp) (p q : ℕ) {x : Bool} where
+  pub peer_yes : is_port (kind s q) ≡ true → parent s q ≡ parent s p → not (eqb q p) ≡ true → x ≡ covers (shape_of s) t q
+      → x ≡ is_peer (shape_of s) t p q
   unfolding is_peer shape_of
-  peer_apart ne = rw (ne_eqb (parent s q) (parent s p) (λ e. ne (hm ∙ e ∙ sym hn))) (simp and-false)
+  peer_yes k e n h = rw (k, eq-eqb (parent s q) (parent s p) e, n) h
 
-  module _ (same : m ≡ n) {k : ℕ} {a : Bool} (hk : k ≡ kind s q) (ha : a ≡ is_port k) where
-    sibling_test : (a && not (eqb q p)) ≡ (is_port (kind s q) && eqb (parent s q) (parent s p) && not (eqb q p))
-    sibling_test = rw (ha ∙ ap is_port hk, eq-eqb (parent s q) (parent s p) (sym hm ∙ same ∙ hn)) (simp and-true)
+  pub peer_apart : (parent s q ≡ parent s p → ⊥) → x ≡ false → x ≡ is_peer (shape_of s) t p q
+  unfolding is_peer shape_of
+  peer_apart e h = rw (ne_eqb (parent s q) (parent s p) e) (h ∙ sym (simp and-false))
 
-    pub peer_yes : {r : Bool} → (a && not (eqb q p)) ≡ true → r ≡ covers (shape_of s) t q → r ≡ is_peer (shape_of s) t p q
-    unfolding is_peer shape_of
-    peer_yes on r = then_and sibling_test on r
+  pub peer_no_port : is_port (kind s q) ≡ false → x ≡ false → x ≡ is_peer (shape_of s) t p q
+  unfolding is_peer shape_of
+  peer_no_port k h = rw k h
 
-    pub peer_no : (a && not (eqb q p)) ≡ false → false ≡ is_peer (shape_of s) t p q
-    unfolding is_peer shape_of
-    peer_no off = else_and _ sibling_test off
+  pub peer_itself : not (eqb q p) ≡ false → x ≡ false → x ≡ is_peer (shape_of s) t p q
+  unfolding is_peer shape_of
+  peer_itself n h = rw n (h ∙ sym (simp and-false))
 
-module _ (s : List ℕ) (t : Tlp) (q : ℕ) {k : ℕ} {x : Bool} (hk : k ≡ kind s q) (hx : x ≡ is_root k) where
-  pub entry_yes : {r : Bool} → x ≡ true → r ≡ covers (shape_of s) t q → r ≡ is_entry (shape_of s) t q
+module _ (s : List ℕ) (t : Tlp) (q : ℕ) {x : Bool} where
+  pub entry_yes : is_root (kind s q) ≡ true → x ≡ covers (shape_of s) t q → x ≡ is_entry (shape_of s) t q
   unfolding is_entry shape_of
-  entry_yes on r = then_and (hx ∙ ap is_root hk) on r
+  entry_yes k h = rw k h
 
-  pub entry_no : x ≡ false → false ≡ is_entry (shape_of s) t q
+  pub entry_no : is_root (kind s q) ≡ false → x ≡ false → x ≡ is_entry (shape_of s) t q
   unfolding is_entry shape_of
-  entry_no off = else_and _ (hx ∙ ap is_root hk) off
+  entry_no k h = rw k h
 
-module _ (s : List ℕ) (t : Tlp) (c q : ℕ) {m : ℕ} (hm : m ≡ parent s q) where
-  pub way_yes : {r : Bool} → m ≡ c → r ≡ covers (shape_of s) t q → r ≡ is_way_on (shape_of s) t c q
+module _ (s : List ℕ) (t : Tlp) (c q : ℕ) {x : Bool} where
+  pub way_yes : parent s q ≡ c → x ≡ covers (shape_of s) t q → x ≡ is_way_on (shape_of s) t c q
   unfolding is_way_on shape_of
-  way_yes e r = then_and refl (eq-eqb _ _ (sym hm ∙ e)) r
+  way_yes e h = rw (eq-eqb (parent s q) c e) h
 
-  pub way_no : (m ≡ c → ⊥) → false ≡ is_way_on (shape_of s) t c q
+  pub way_no : (parent s q ≡ c → ⊥) → x ≡ false → x ≡ is_way_on (shape_of s) t c q
   unfolding is_way_on shape_of
-  way_no d = else_and _ refl (ne_eqb _ _ (λ e. d (hm ∙ e)))
-
--- whether p is a root port, as is_root of its kind says it
-pub root : (s : List ℕ) (p : ℕ) {k : ℕ} {x b : Bool} → k ≡ kind s p → x ≡ is_root k → x ≡ b → is_root (kind s p) ≡ b
-root s p hk hx hb = sym (hx ∙ ap is_root hk) ∙ hb
+  way_no e h = rw (ne_eqb (parent s q) c e) h
 
 -- the parent of a record that is no root port stands lower
 pub parent_lower : (s : List ℕ) (p : ℕ) {a : ℕ} → Accepted s → p < count s → is_root (kind s p) ≡ false → a ≡ parent s p → a < p
 unfolding shape_of
 parent_lower s p ok l r e = let b : parent s p < p = ok.formed.lower p l r in omega arith
 
--- where a search for siblings may begin: anywhere for a root port, and behind the parent for others, since parents stand lower
-pub siblings_anywhere : {s : List ℕ} {p : ℕ} → SiblingsFrom s p 0
-siblings_anywhere = record { within = omega arith; none_before = λ j l. absurd (omega arith) }
-
+-- where a search for siblings may begin: for all but root ports behind the parent, since parents stand lower
 pub siblings_behind : (s : List ℕ) (p : ℕ) {a : ℕ} → Accepted s → p < count s → a ≡ parent s p → a < p → SiblingsFrom s p (a + 1)
 unfolding shape_of
 siblings_behind s p ok l e b =
@@ -143,37 +128,29 @@ siblings_behind s p ok l e b =
           (λ n. let up : parent s j < j = ok.formed.lower j (omega arith) n in ne_eqb (parent s j) (parent s p) (λ z. omega arith));
     }
 
--- the searches' starts
+-- the searches, which begin where no node before can be found
 
 no_peer : (s : List ℕ) (t : Tlp) (p j : ℕ) → eqb (parent s j) (parent s p) ≡ false → is_peer (shape_of s) t p j ≡ false
 unfolding is_peer shape_of
 no_peer s t p j h = rw (and_right_false (is_port (kind s j)) (eqb (parent s j) (parent s p)) h)
 
-pub peers_start : (s : List ℕ) (t : Tlp) (p : ℕ) {n r : ℕ} → n ≡ count s → SiblingsFrom s p r
-    → Searching (is_peer (shape_of s) t p) n r (peer_of (shape_of s) t p)
+pub peers_found : (s : List ℕ) (t : Tlp) (p : ℕ) {n r : ℕ} → n ≡ count s → SiblingsFrom s p r
+    → find_from (is_peer (shape_of s) t p) (n - r) r ≡ peer_of (shape_of s) t p
 unfolding peer_of shape_of
-peers_start s t p {n} {r} e b =
-    record {
-      left = find_after (is_peer (shape_of s) t p) n (count s) r e
-          ∙ find_behind (is_peer (shape_of s) t p) (count s) r b.within
-          (λ j l. no_peer s t p j (b.none_before j l));
-    }
+peers_found s t p {n} {r} e b =
+    find_after (is_peer (shape_of s) t p) n (count s) r e
+    ∙ find_behind (is_peer (shape_of s) t p) (count s) r b.within (λ j l. no_peer s t p j (b.none_before j l))
 
-pub entries_start : (s : List ℕ) (t : Tlp) {n : ℕ} → n ≡ count s → Searching (is_entry (shape_of s) t) n 0 (entry_for (shape_of s) t)
+pub entry_found : (s : List ℕ) (t : Tlp) {n : ℕ} → n ≡ count s → find_from (is_entry (shape_of s) t) (n - 0) 0 ≡ entry_for (shape_of s) t
 unfolding entry_for shape_of
-entries_start s t {n} e = record { left = find_all (is_entry (shape_of s) t) n (count s) e }
+entry_found s t {n} e = find_all (is_entry (shape_of s) t) n (count s) e
 
-pub children_start : (s : List ℕ) (t : Tlp) (p : ℕ) {n : ℕ} → n ≡ count s → Searching (is_child (shape_of s) t p) n (p + 1) (child_for (shape_of s) t p)
+pub child_found : (s : List ℕ) (t : Tlp) (p : ℕ) {n : ℕ} → n ≡ count s
+    → find_from (is_child (shape_of s) t p) (n - (p + 1)) (p + 1) ≡ child_for (shape_of s) t p
 unfolding child_for shape_of
-children_start s t p {n} e = record { left = find_after (is_child (shape_of s) t p) n (count s) (p + 1) e }
+child_found s t p {n} e = find_after (is_child (shape_of s) t p) n (count s) (p + 1) e
 
-pub ways_start : (s : List ℕ) (t : Tlp) (c : ℕ) {n : ℕ} → n ≡ count s → Searching (is_way_on (shape_of s) t c) n (c + 1) (way_on (shape_of s) t c)
+pub way_found : (s : List ℕ) (t : Tlp) (c : ℕ) {n : ℕ} → n ≡ count s
+    → find_from (is_way_on (shape_of s) t c) (n - (c + 1)) (c + 1) ≡ way_on (shape_of s) t c
 unfolding way_on shape_of
-ways_start s t c {n} e = record { left = find_after (is_way_on (shape_of s) t c) n (count s) (c + 1) e }
-
--- a peer that was found is a record
-pub peer_in : (s : List ℕ) (t : Tlp) (p q : ℕ) {f : Found} → Accepted s → f ≡ peer_of (shape_of s) t p → f ≡ At q → HasRecord s q
-unfolding peer_of shape_of
-peer_in s t p q ok hf h =
-    let b : q < count s = (found_in (shape_of s) (is_peer (shape_of s) t p) q (sym hf ∙ h)).0 in
-    let size = ok.size in omega arith
+way_found s t c {n} e = find_after (is_way_on (shape_of s) t c) n (count s) (c + 1) e

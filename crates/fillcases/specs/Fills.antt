@@ -3,7 +3,9 @@
 use Rattle.std.specs.Prelude.{◌≡◌, List, [], ◌∷◌, ◌++◌, ℕ, ◌+◌, ◌-◌, ◌*◌, replicate}
 use Rattle.rules.specs.Refuse.{Result, refused, answered}
 use Rattle.rules.specs.Bytes.{le_bytes}
-use Rattle.rules.specs.Fill.{Field, field, fill_all, Extent, extent, filling, record_after}
+use Rattle.rules.specs.declared.Extent.{Extent}
+use Rattle.rules.specs.Image.{extent}
+use Rattle.rules.specs.Fill.{Field, field, fill_all, filling, record_after}
 
 -- an answer, and the record after it
 pub record Done : Type 0 where

@@ -1,2 +1,1 @@
-pub mod AcsLaws
-pub mod FieldsLaws
+pub mod RangeLaws

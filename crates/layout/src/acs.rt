@@ -5,8 +5,8 @@ ghost use Rattle.rules.specs.Snapshot.{vector_size};
 
 use rules::PortNumber;
 
-// A Capability or Control register, with the paper's bit numbers.
-#[derive(Clone, Copy)]
+// A Capability or Control register, with the paper's bit numbers, as constants by document 01's wish.
+#[derive(Clone, Copy, Debug, PartialEq, Eq)]
 pub struct Acs(pub u16);
 
 impl Acs {
@@ -39,15 +39,9 @@ impl Acs {
     pub fn size(self) -> u16
         ensures { result ≡ vector_size self.0 }
     {
-        let field = self.0 / 256;
-        if field == 0 {
-            if self.on(Acs::E) {
-                Acs::FULL
-            } else {
-                0 // without E
-            }
-        } else {
-            field
+        match self.0 / 256 {
+            0 if self.on(Acs::E) => Acs::FULL,
+            field => field,
         }
     }
 }
@@ -58,6 +52,6 @@ pub fn vector_bit(s: &[u8], at: usize, size: u16, peer: PortNumber) -> bool
     ensures { result ≡ (ltb peer.0 size && bit (peer.0 % 8) (byte s.now (at + peer.0 / 8))) }
 {
     let k = peer.0;
-    let byte = s[at + (k as usize) / 8];
-    ((k as u16) < size) & ((byte >> (k % 8)) % 2 == 1)
+    let byte = s[at + usize::from(k / 8)];
+    u16::from(k) < size && (byte >> (k % 8)) % 2 == 1
 }

@@ -2,7 +2,7 @@
 --
 use mathlib.Core.Path.{◌≡◌, refl, sym, ◌∙◌, ap, ap₂, subst}
 use mathlib.Core.Bool.{Bool, true, false, ◌&&◌}
-use mathlib.Core.Logic.{⊎_elim}
+use mathlib.Core.Logic.{◌⊎◌, ⊎_elim}
 use Prim.Native.Nat.{ℕ, zero, suc, ◌+◌, ◌-◌, ◌*◌, ◌^◌, ◌/◌, ◌%◌, ◌≤◌, ◌<◌, zero-le}
 use native.Mathlib.Nat.{not-suc-le-zero, eq-zero-or-pos, mod-one}
 use native.Mathlib.Numerals.{add-one}
@@ -10,11 +10,11 @@ use native.Mathlib.Omega.{arith}
 use lib.Dec.{eqb, leb}
 use lib.Count.{ones, ones_in, ones_step, ones_cat, ones-le, count_trailing_zeros, under}
 use lib.Pow.{pow_pos, pow_mono, mod-pow-add}
-use borrow.Author.Tests.{eqb-true, eq-eqb, leb-true, le-leb}
+use borrow.Author.Tests.{eqb-true, eq-eqb, leb-true, le-leb, lt-leb}
 use Rattle.rules.specs.Below.{any_below}
 use Rattle.rules.specs.Records.{power_of_two, sized, span_fine}
 use Rattle.rules.proofs.Logic.{either, same_test, and_right_false}
-use Rattle.rules.proofs.Loops.{Some, any_some, some_any}
+use Rattle.rules.proofs.Loops.{Witness, any_some, some_any}
 
 -- the count of ones
 
@@ -59,7 +59,7 @@ power_law n h =
     same_test (eqb (ones n) 1) (power_of_two n)
     (λ p. let w : Power 64 n = one_digit 64 n h (eqb-true (ones n) 1 p) in
     some_any 64 (λ k. eqb n (2 ^ k)) w.exponent w.below (eq-eqb n (2 ^ w.exponent) w.is))
-    (λ q. let w : Some 64 (λ k. eqb n (2 ^ k)) = any_some 64 (λ k. eqb n (2 ^ k)) q in
+    (λ q. let w : Witness 64 (λ k. eqb n (2 ^ k)) = any_some 64 (λ k. eqb n (2 ^ k)) q in
     eq-eqb (ones n) 1 (ap ones (eqb-true n (2 ^ w.which) w.passes) ∙ ones_pow w.which))
 
 -- trailing zeros
@@ -116,7 +116,7 @@ sized_law n f h =
     ap (λ (p : Bool). p && leb 128 n && leb (count_trailing_zeros 64 n) (count_trailing_zeros 64 f)) (power_law n h)
     ∙ either (power_of_two n) (λ p. power (any_some 64 (λ k. eqb n (2 ^ k)) p)) (λ q. rw q)
   where
-    power : Some 64 (λ k. eqb n (2 ^ k))
+    power : Witness 64 (λ k. eqb n (2 ^ k))
         → (power_of_two n && leb 128 n && leb (count_trailing_zeros 64 n) (count_trailing_zeros 64 f))
         ≡ (power_of_two n && leb 128 n && leb n (2 ^ 63) && eqb (f % n) 0)
     power w = join (power_of_two n && leb 128 n) (le-leb n (2 ^ 63) bounded) aligned
@@ -135,11 +135,37 @@ sized_law n f h =
         join true e q = rw (e, q)
         join false e q = refl
 
+-- .. where the first two decide
+pub sized_then : (n f : ℕ) → n < 2 ^ 64 → (ones n ≡ 1) × (128 ≤ n) → leb (count_trailing_zeros 64 n) (count_trailing_zeros 64 f) ≡ sized n f
+sized_then n f h p =
+    sym (rw (eq-eqb (ones n) 1 p.0, le-leb 128 n p.1) refl) ∙ sized_law n f h
+
+pub sized_else : (n f : ℕ) → n < 2 ^ 64 → ((ones n ≡ 1) × (n < 128)) ⊎ (ones n ≡ 1 → ⊥) → false ≡ sized n f
+sized_else n f h p = ⊎_elim few short p
+  where
+    short : (ones n ≡ 1 → ⊥) → false ≡ sized n f
+    short q = either (eqb (ones n) 1) (λ t. absurd (q (eqb-true (ones n) 1 t))) (λ t. sym (rw t refl) ∙ sized_law n f h)
+
+    few : (ones n ≡ 1) × (n < 128) → false ≡ sized n f
+    few q = sym (rw (eq-eqb (ones n) 1 q.0, lt-leb 128 n q.1) refl) ∙ sized_law n f h
+
 -- a length of 2 ^ 64 is no power of two to 2 ^ 63
 whole : (n f : ℕ) → n ≡ 2 ^ 64 → sized n f ≡ false
 unfolding sized any_below
 whole n f e = rw e
 
-pub whole_span : (f l : ℕ) → l - f ≡ 0xFFFF_FFFF_FFFF_FFFF → false ≡ span_fine f l
+-- a range turned round, one of every address, and the rest
+pub turned_span : (f l : ℕ) → (f ≤ l → ⊥) → false ≡ span_fine f l
 unfolding span_fine
-whole_span f l e = sym (and_right_false (leb f l) (sized (l - f + 1) f) (whole (l - f + 1) f (omega arith)))
+turned_span f l h = sym (rw (lt-leb f l (omega (arith, h))) refl)
+
+pub whole_span : (f l : ℕ) → l < 2 ^ 64 → (l - f + 1 < 2 ^ 64 → ⊥) → false ≡ span_fine f l
+unfolding span_fine
+whole_span f l fits h = sym (and_right_false (leb f l) (sized (l - f + 1) f) (whole (l - f + 1) f (omega (arith, h))))
+
+pub sized_span : (f l n : ℕ) → f ≤ l → n ≡ l - f + 1 → sized n f ≡ span_fine f l
+unfolding span_fine
+sized_span f l n h e = rw (e, le-leb f l h)
+
+-- what `span_fine` comes to, at each of its returns
+pub ruleset spans = (turned_span, whole_span, sized_span)

@@ -32,6 +32,10 @@ module _ (b : List ℕ) (at : ℕ) (x : List ℕ) (room : at + length x ≤ leng
   pub drop_laid : (m : ℕ) → drop (at + length x + m) (laid b at x) ≡ drop (at + length x + m) b
   drop_laid m = sym (drop-drop m (at + length x) (laid b at x)) ∙ ap (drop m) drop_head ∙ drop-drop m (at + length x) b
 
+-- a part that is written anew
+pub put_laid : (b : List ℕ) (at k : ℕ) (x : List ℕ) → k ≡ length x → at + length x ≤ length b → put_mid at k b x ≡ laid b at x
+put_laid b at k x e room = rw (e, drop-drop (length x) at b) (sym (laid_split b at x room))
+
 -- four stores at the start of a list that has room for them
 four_sets : (l : List ℕ) (w x y z : ℕ) → 4 ≤ length l → set (set (set (set l 0 w) 1 x) 2 y) 3 z ≡ w ∷ x ∷ y ∷ z ∷ drop 4 l
 four_sets [] w x y z h = absurd (omega arith)

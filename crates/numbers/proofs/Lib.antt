@@ -1,4 +1,3 @@
-pub mod Eight
 pub mod Digits
 pub mod Laid
 pub mod NumbersLaws

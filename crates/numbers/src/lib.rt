@@ -5,5 +5,5 @@
 mod numbers;
 mod powers;
 
-pub use numbers::{is_zero, le_u16, le_u32, le_u64, put_bytes, put_le_u64};
+pub use numbers::{LittleEndian, is_zero, le, put_bytes, put_le_u64};
 pub use powers::span_fine;

@@ -1,98 +1,102 @@
 // Numbers in bytes, read and written; bytes copied, and runs of zero bytes.
-ghost use Rattle.std.specs.Prelude.{◌≡◌, ◌+◌, ◌^◌, ◌≤◌, ◌<◌, length};
-ghost use Rattle.rules.specs.Bytes.{byte, le, le_bytes, bytes_from, laid};
+ghost use Rattle.std.specs.Prelude.{◌≡◌, ◌+◌, ◌≤◌, length, ℕ, take, drop};
+ghost use Rattle.rules.specs.Bytes.{le, le_bytes, bytes_from, laid};
 ghost use Rattle.rules.specs.Records.{zeros};
-ghost use Rattle.numbers.specs.Sums.{two, eight};
 
-fn sum2(a: u8, b: u8) -> u16
-    ensures { result ≡ two a b }
-{
-    (a as u16) + 0x100 * (b as u16)
+// A number that `width` bytes write, the lowest first.
+pub trait LittleEndian {
+    ghost width: { ℕ };
+
+    ghost number: { Self → ℕ };
+
+    // The number that stands first in these bytes.
+    fn read(s: &[u8]) -> Self
+        requires { width ≤ length s.now }
+        ensures { number result ≡ le width s.now 0 };
 }
 
-// Two bytes, little-endian.
-pub fn le_u16(s: &[u8], at: usize) -> u16
-    requires { at + 2 ≤ length s.now }
-    ensures { result ≡ le 2 s.now at }
-{
-    sum2(s[at], s[at + 1])
+impl LittleEndian for u16 {
+    ghost width = { 2 };
+
+    ghost number = { λ x. x };
+
+    fn read(s: &[u8]) -> u16 {
+        u16::from_le_bytes([s[0], s[1]])
+    }
 }
 
-// Four bytes, little-endian.
-pub fn le_u32(s: &[u8], at: usize) -> u32
-    requires { at + 4 ≤ length s.now }
-    ensures { result ≡ le 4 s.now at }
-{
-    (le_u16(s, at) as u32) + 0x10000 * (le_u16(s, at + 2) as u32)
+impl LittleEndian for u32 {
+    ghost width = { 4 };
+
+    ghost number = { λ x. x };
+
+    fn read(s: &[u8]) -> u32 {
+        u32::from_le_bytes([s[0], s[1], s[2], s[3]])
+    }
 }
 
-fn sum8(a: u8, b: u8, c: u8, d: u8, e: u8, f: u8, g: u8, h: u8) -> u64
-    ensures { result ≡ eight a b c d e f g h }
-{
-    (a as u64)
-        + 0x100 * (b as u64)
-        + 0x10000 * (c as u64)
-        + 0x1000000 * (d as u64)
-        + 0x100000000 * (e as u64)
-        + 0x10000000000 * (f as u64)
-        + 0x1000000000000 * (g as u64)
-        + 0x100000000000000 * (h as u64)
+impl LittleEndian for u64 {
+    ghost width = { 8 };
+
+    ghost number = { λ x. x };
+
+    fn read(s: &[u8]) -> u64 {
+        u64::from_le_bytes([s[0], s[1], s[2], s[3], s[4], s[5], s[6], s[7]])
+    }
 }
 
-// Eight bytes, little-endian.
-pub fn le_u64(s: &[u8], at: usize) -> u64
-    requires { at + 8 ≤ length s.now }
-    ensures { result ≡ le 8 s.now at }
+// The number that the bytes from `at` on write, as many as its type takes.
+#[tactic(auto, using(crate::proofs::NumbersLaws::le_from))]
+pub fn le<T: LittleEndian>(s: &[u8], at: usize) -> T
+    requires { at + T.width ≤ length s.now }
+    ensures { T.number result ≡ le T.width s.now at }
 {
-    sum8(
-        s[at],
-        s[at + 1],
-        s[at + 2],
-        s[at + 3],
-        s[at + 4],
-        s[at + 5],
-        s[at + 6],
-        s[at + 7],
-    )
+    T::read(&s[at..])
+}
+
+// Puts bytes in the place of those from `at` on.
+#[tactic(auto, using(crate::proofs::Laid::put_laid))]
+fn put(b: &mut [u8], at: usize, part: &[u8])
+    requires { at + length part.now ≤ length b.old }
+    ensures { b.new ≡ laid b.old at part.now }
+{
+    b[at..at + part.len()].copy_from_slice(part);
 }
 
 // Puts a number into the eight bytes from `at` on, little-endian.
+#[tactic(auto, using(crate::proofs::NumbersLaws::eight_bytes))]
 pub fn put_le_u64(b: &mut [u8], at: usize, x: u64)
     requires { at + 8 ≤ length b.old }
     ensures { b.new ≡ laid b.old at (le_bytes 8 x) }
 {
-    let mut rest = x;
-    for k in 0..8 {
-        b[at + k] = (rest % 256) as u8;
-        rest = rest / 256;
-    }
+    put(b, at, &x.to_le_bytes());
 }
 
-// The byte at `at`, and 0 past the end.
-pub fn byte_or_0(s: &[u8], at: usize) -> u8
-    ensures { result ≡ byte s.now at }
+// What is there of the n bytes from `from` on.
+fn part(s: &[u8], from: usize, n: usize) -> &[u8]
+    ensures { result.now ≡ take n (drop from s.now) }
 {
-    if at < s.len() { s[at] } else { 0 }
+    let rest = &s[from.min(s.len())..];
+    &rest[..n.min(rest.len())]
 }
 
 // Copies n bytes of `s` from `from` on to the place `at` of b; past the end of s they are 0.
+#[tactic(auto, using(crate::proofs::NumbersLaws::fill_laid))]
 pub fn put_bytes(b: &mut [u8], at: usize, n: usize, s: &[u8], from: usize)
-    requires { (at + n ≤ length b.old) × (from + n < 2 ^ 64) }
+    requires { at + n ≤ length b.old }
     ensures { b.new ≡ laid b.old at (bytes_from n s.now from) }
 {
-    for k in 0..n {
-        b[at + k] = byte_or_0(s, from + k);
-    }
+    let given = part(s, from, n);
+    put(b, at, given);
+    b[at + given.len()..at + n].fill(0);
 }
 
-// The n bytes from `at` on are zero.
+// The n bytes from `at` on are zero. Each of them is looked at, since wide loads beat an early exit.
 pub fn is_zero(s: &[u8], at: usize, n: usize) -> bool
     requires { at + n ≤ length s.now }
     ensures { result ≡ zeros s.now at n }
 {
-    let mut ok = true;
-    for k in 0..n {
-        ok = ok & (s[at + k] == 0);
-    }
-    ok
+    s[at..at + n]
+        .iter()
+        .fold(true, |blank, b| blank & (*b == 0))
 }

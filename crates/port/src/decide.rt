@@ -1,208 +1,206 @@
-// Going up: what port p does with a TLP that enters it. Steps 1 to 6 of document 01, in their order.
+// Going up: what a port does with a TLP that enters it. Steps 1 to 6 of document 01, in their order.
 ghost use Rattle.std.specs.Prelude.{◌≡◌, false, ◌<◌};
-ghost use Rattle.rules.specs.Accepted.{Accepted};
-ghost use Rattle.rules.specs.Snapshot.{HasRecord, count, kind, is_root, validation_reflects};
-ghost use Rattle.rules.specs.Fabric.{shape_of, setting_of};
+ghost use Rattle.rules.specs.Snapshot.{count, kind, is_root};
 ghost use Rattle.rules.specs.Decide as rule;
-ghost use Rattle.port.specs.Parts.{blocked, validated, goes_translated, by_table, elsewhere};
+ghost use Rattle.cover.specs.Asked.{shape, setting};
+ghost use Rattle.port.specs.Parts.{goes_translated, by_table};
 
-use crate::actions::{AS_ADDRESSED, DIRECT_TO_PEER, REDIRECTED_UP, UP_BY_U};
 use crate::egress::peer_request;
-use cover::{covers, parent_of, peer_of};
+use cover::{Query, Visit};
+use layout::COMPLEX;
 use layout::acs::Acs;
-use layout::fields::COMPLEX;
-use layout::{fields, kinds};
-use rules::{Found, Handling, Letter, Move, Outcome, Tlp};
+use layout::kind::Kind;
+use rules::{Action, Handling, Letter, Move, Outcome};
+
+// The port itself is the end, by this control; it is a completer abort where a completion is owed.
+fn violation(letter: Letter, visit: Visit<'_>) -> Move
+    ensures { let v = visit.entry in result ≡ rule.violation letter v.query.tlp v.node }
+{
+    Move::Stop(Outcome::Violated(letter, visit.node, visit.query.tlp.completion_owed))
+}
 
 // Validation in the root complex, which reflects or not, blocks the TLP; it never blocks a
 // completion.
-fn blocks(reflects: bool, t: Tlp) -> bool
-    ensures { result ≡ blocked reflects t }
+fn blocks(query: Query<'_>) -> bool
+    ensures { let q = query.entry in result ≡ rule.blocks (shape q) q.tlp }
 {
-    t.request & !reflects
+    query.tlp.request && !query.reflects
 }
 
 // A root port gives a request to validation and reflects a completion.
-fn at_the_top(reflects: bool, t: Tlp, p: u16) -> Move
-    ensures { result ≡ validated reflects t p }
+fn at_the_top(visit: Visit<'_>) -> Move
+    ensures { let v = visit.entry in result ≡ rule.at_the_top (shape v.query) v.query.tlp v.node }
 {
-    if blocks(reflects, t) {
-        Move::Stop(Outcome::Violated(Letter::Validation, p, t.completion_owed))
+    if blocks(visit.query) {
+        violation(Letter::Validation, visit)
     } else {
         Move::Reflect
     }
 }
 
 // Up, by redirect or by U, with this action.
-fn sent_up(s: &[u8], reflects: bool, t: Tlp, p: u16, action: u8) -> Move
-    requires { HasRecord s.now p × (reflects ≡ validation_reflects s.now) }
-    ensures { result ≡ rule.sent_up (shape_of s.now) t p action }
+fn sent_up(visit: Visit<'_>, action: Action) -> Move
+    ensures { let v = visit.entry in result ≡ rule.sent_up (shape v.query) v.query.tlp v.node action }
 {
-    if kinds::is_root(fields::kind(s, p)) {
-        at_the_top(reflects, t, p)
+    if visit.record().is(Kind::Root) {
+        at_the_top(visit)
     } else {
         Move::Up(action)
     }
 }
 
-// Step 1: a request whose requester is not below p. A completion's source is never validated.
-fn bad_source(s: &[u8], t: Tlp, p: u16) -> bool
-    requires { HasRecord s.now p }
-    ensures { result ≡ rule.bad_source (shape_of s.now) (setting_of s.now) t p }
+// Step 1: a request whose requester is not below the port. A completion's source is never validated.
+fn bad_source(visit: Visit<'_>) -> bool
+    ensures { let v = visit.entry in result ≡ rule.bad_source (shape v.query) (setting v.query) v.query.tlp v.node }
 {
-    let bus = t.requester_bus;
-    let b = bus.0;
-    let below = (fields::secondary(s, p).0 <= b) & (b <= fields::subordinate(s, p).0);
-    t.request & fields::control(s, p).on(Acs::V) & !below
+    let tlp = visit.query.tlp;
+    let port = visit.record();
+    let validated = tlp.request & port.control().on(Acs::V);
+    validated && !port.bus_range().contains(tlp.requester_bus)
 }
 
 // Step 2: a request with an address type other than 0.
-fn bad_translation(s: &[u8], t: Tlp, p: u16) -> bool
-    requires { HasRecord s.now p }
-    ensures { result ≡ rule.bad_translation (setting_of s.now) t p }
+fn bad_translation(visit: Visit<'_>) -> bool
+    ensures { let v = visit.entry in result ≡ rule.bad_translation (setting v.query) v.query.tlp v.node }
 {
-    t.request & fields::control(s, p).on(Acs::B) & !(t.address_type == 0)
+    let tlp = visit.query.tlp;
+    let checked = tlp.request & visit.record().control().on(Acs::B);
+    checked && tlp.address_type != 0
 }
 
-// Step 3: p itself covers it.
-fn own_range(s: &[u8], reflects: bool, t: Tlp, p: u16) -> Move
-    requires { HasRecord s.now p × (reflects ≡ validation_reflects s.now) }
-    ensures { result ≡ rule.own_range (shape_of s.now) (setting_of s.now) t p }
+// Step 3: the port itself covers it.
+fn own_range(visit: Visit<'_>) -> Move
+    ensures { let v = visit.entry in result ≡ rule.own_range (shape v.query) (setting v.query) v.query.tlp v.node }
 {
-    if fields::control(s, p).on(Acs::U) {
-        sent_up(s, reflects, t, p, UP_BY_U)
+    if visit.record().control().on(Acs::U) {
+        sent_up(visit, Action::UpByU)
     } else {
-        Move::Stop(Outcome::Undefined(p))
+        Move::Stop(Outcome::Undefined(visit.node))
     }
 }
 
 // C redirects this completion.
-fn turns_back(s: &[u8], t: Tlp, p: u16) -> bool
-    requires { HasRecord s.now p }
-    ensures { result ≡ rule.turns_back (setting_of s.now) t p }
+fn turns_back(visit: Visit<'_>) -> bool
+    ensures { let v = visit.entry in result ≡ rule.turns_back (setting v.query) v.query.tlp v.node }
 {
-    fields::control(s, p).on(Acs::C) & !t.straight
+    visit.record().control().on(Acs::C) && !visit.query.tlp.straight
 }
 
 // T lets this request go straight to its peer.
-fn goes_translated(s: &[u8], t: Tlp, p: u16) -> bool
-    requires { HasRecord s.now p }
-    ensures { result ≡ goes_translated (setting_of s.now) t p }
+fn goes_translated(visit: Visit<'_>) -> bool
+    ensures { let v = visit.entry in result ≡ goes_translated (setting v.query) v.query.tlp v.node }
 {
-    fields::control(s, p).on(Acs::T) & (t.address_type == 2)
+    visit.record().control().on(Acs::T) && visit.query.tlp.address_type == 2
 }
 
-// What the table gives for a request from p to its peer q, worked out from the registers of p.
-fn by_table(s: &[u8], p: u16, q: u16) -> Handling
-    requires { HasRecord s.now p × HasRecord s.now q }
-    ensures { result ≡ by_table (shape_of s.now) (setting_of s.now) p q }
+// What the table gives for a request to the peer q, worked out from the port's registers. A peer is a
+// number below the count, as the search for it gives it: of a visit it would have to be said that its
+// query is this one.
+fn by_table(visit: Visit<'_>, q: u16) -> Handling
+    requires { q < count visit.query.bytes.now }
+    ensures { let v = visit.entry in result ≡ by_table (shape v.query) (setting v.query) v.node q }
 {
-    let control = fields::control(s, p);
+    let port = visit.record();
+    let control = port.control();
+    let peer = visit.query.at(q).record();
     peer_request(
         control.on(Acs::E),
         control.on(Acs::R),
-        fields::vector_bit(s, p, fields::port_number(s, q)),
+        port.vector_bit(peer.port_number()),
     )
 }
 
-// Step 4: how p handles a TLP for its peer q.
-fn peer_handling(s: &[u8], t: Tlp, p: u16, q: u16) -> Handling
-    requires { HasRecord s.now p × HasRecord s.now q }
-    ensures { result ≡ rule.peer_handling (shape_of s.now) (setting_of s.now) t p q }
+// Step 4: how the port handles a TLP for its peer q.
+fn peer_handling(visit: Visit<'_>, q: u16) -> Handling
+    requires { q < count visit.query.bytes.now }
+    ensures { let a = visit.entry.query in result ≡ rule.peer_handling (shape a) (setting a) a.tlp visit.entry.node q }
 {
-    if t.request {
-        if goes_translated(s, t, p) {
-            return Handling::Direct;
+    if visit.query.tlp.request {
+        if goes_translated(visit) {
+            Handling::Direct
+        } else {
+            by_table(visit, q)
         }
-        return by_table(s, p, q);
+    } else if turns_back(visit) {
+        Handling::Redirect
+    } else {
+        Handling::Direct
     }
-    if turns_back(s, t, p) {
-        return Handling::Redirect;
-    }
-    Handling::Direct
 }
 
 // Direct to the peer, which root ports need flag bit 0 for.
-fn direct(s: &[u8], p: u16, q: u16) -> Move
-    requires { HasRecord s.now p }
-    ensures { result ≡ rule.direct (shape_of s.now) p q }
+fn direct(visit: Visit<'_>, q: u16) -> Move
+    ensures { let v = visit.entry in result ≡ rule.direct (shape v.query) v.node q }
 {
-    if kinds::is_root(fields::kind(s, p)) & !fields::roots_reach(s) {
-        Move::Beyond(Outcome::Unclaimed(COMPLEX), COMPLEX, DIRECT_TO_PEER)
+    if visit.record().is(Kind::Root) && !visit.query.fabric().snapshot().roots_reach() {
+        Move::Beyond(Outcome::Unclaimed(COMPLEX), COMPLEX, Action::DirectToPeer)
     } else {
         Move::Across(q)
     }
 }
 
-// Step 4: what p's handling of a TLP for its peer q comes to.
-fn handled(s: &[u8], reflects: bool, t: Tlp, p: u16, q: u16, h: Handling) -> Move
-    requires { HasRecord s.now p × (reflects ≡ validation_reflects s.now) }
-    ensures { result ≡ rule.handled (shape_of s.now) t p q h }
+// Step 4: what the port's handling of a TLP for its peer q comes to.
+fn handled(visit: Visit<'_>, q: u16, handling: Handling) -> Move
+    ensures { let v = visit.entry in result ≡ rule.handled (shape v.query) v.query.tlp v.node q handling }
 {
-    match h {
-        Handling::Direct => direct(s, p, q),
-        Handling::Redirect => sent_up(s, reflects, t, p, REDIRECTED_UP),
-        Handling::Violation => Move::Stop(Outcome::Violated(Letter::Egress, p, t.completion_owed)),
+    match handling {
+        Handling::Direct => direct(visit, q),
+        Handling::Redirect => sent_up(visit, Action::RedirectedUp),
+        Handling::Violation => violation(Letter::Egress, visit),
     }
 }
 
 // Step 4: sibling port q covers it.
-fn to_peer(s: &[u8], reflects: bool, t: Tlp, p: u16, q: u16) -> Move
-    requires { HasRecord s.now p × (HasRecord s.now q × (reflects ≡ validation_reflects s.now)) }
-    ensures { result ≡ rule.to_peer (shape_of s.now) (setting_of s.now) t p q }
+fn to_peer(visit: Visit<'_>, q: u16) -> Move
+    requires { q < count visit.query.bytes.now }
+    ensures { let v = visit.entry in result ≡ rule.to_peer (shape v.query) (setting v.query) v.query.tlp v.node q }
 {
-    handled(s, reflects, t, p, q, peer_handling(s, t, p, q))
+    handled(visit, q, peer_handling(visit, q))
 }
 
-// Step 5: past the parent of the kind 3 port p.
-fn past_parent(s: &[u8], t: Tlp, p: u16) -> Move
-    requires { Accepted s.now × ((p < count s.now) × (is_root (kind s.now p) ≡ false)) }
-    ensures { result ≡ rule.past_parent (shape_of s.now) t p }
+// Step 5: past the parent of a kind 3 port.
+fn past_parent(visit: Visit<'_>) -> Move
+    requires { is_root (kind visit.query.bytes.now visit.node) ≡ false }
+    ensures { let v = visit.entry in result ≡ rule.past_parent (shape v.query) v.query.tlp v.node }
 {
-    let above = parent_of(s, p);
-    if covers(s, t, above) {
-        Move::Beyond(Outcome::Unclaimed(above), above, AS_ADDRESSED)
+    let above = visit.parent();
+    if above.covers() {
+        Move::Beyond(
+            Outcome::Unclaimed(above.node),
+            above.node,
+            Action::AsAddressed,
+        )
     } else {
-        Move::Up(AS_ADDRESSED)
+        Move::Up(Action::AsAddressed)
     }
 }
 
-// Steps 5 and 6: nobody at p's level covers it.
-fn onward(s: &[u8], t: Tlp, p: u16) -> Move
-    requires { Accepted s.now × (p < count s.now) }
-    ensures { result ≡ rule.onward (shape_of s.now) t p }
+// Steps 5 and 6: nobody at the port's level covers it.
+fn onward(visit: Visit<'_>) -> Move
+    ensures { let v = visit.entry in result ≡ rule.onward (shape v.query) v.query.tlp v.node }
 {
-    if kinds::is_root(fields::kind(s, p)) {
-        Move::Beyond(Outcome::Host, COMPLEX, AS_ADDRESSED)
+    if visit.record().is(Kind::Root) {
+        Move::Beyond(Outcome::Host, COMPLEX, Action::AsAddressed)
     } else {
-        past_parent(s, t, p)
+        past_parent(visit)
     }
 }
 
-// Steps 4 to 6: p itself doesn't cover it.
-fn elsewhere(s: &[u8], reflects: bool, t: Tlp, p: u16) -> Move
-    requires { Accepted s.now × ((p < count s.now) × (reflects ≡ validation_reflects s.now)) }
-    ensures { result ≡ elsewhere (shape_of s.now) (setting_of s.now) t p }
+// Steps 1 to 6.
+pub fn decide(visit: Visit<'_>) -> Move
+    ensures { let v = visit.entry in result ≡ rule.decide (shape v.query) (setting v.query) v.query.tlp v.node }
 {
-    match peer_of(s, t, p) {
-        Found::At(q) => to_peer(s, reflects, t, p, q),
-        Found::Nothing => onward(s, t, p),
+    if bad_source(visit) {
+        return violation(Letter::Source, visit);
     }
-}
-
-// Steps 1 to 6. Whether validation reflects is the caller's to say, once for a query.
-pub fn decide(s: &[u8], reflects: bool, t: Tlp, p: u16) -> Move
-    requires { Accepted s.now × ((p < count s.now) × (reflects ≡ validation_reflects s.now)) }
-    ensures { result ≡ rule.decide (shape_of s.now) (setting_of s.now) t p }
-{
-    if bad_source(s, t, p) {
-        return Move::Stop(Outcome::Violated(Letter::Source, p, t.completion_owed));
+    if bad_translation(visit) {
+        return violation(Letter::Translation, visit);
     }
-    if bad_translation(s, t, p) {
-        return Move::Stop(Outcome::Violated(Letter::Translation, p, t.completion_owed));
+    if visit.covers() {
+        return own_range(visit);
     }
-    if covers(s, t, p) {
-        return own_range(s, reflects, t, p);
+    match visit.peer() {
+        Some(q) => to_peer(visit, q),
+        None => onward(visit),
     }
-    elsewhere(s, reflects, t, p)
 }

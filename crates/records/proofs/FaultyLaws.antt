@@ -1,18 +1,14 @@
 -- The rules of a record joined: the two that are tested first, those behind them, and those of siblings.
-use mathlib.Core.Path.{◌≡◌, refl, sym, ◌∙◌, ap}
-use mathlib.Core.Bool.{Bool, true, false, ◌&&◌, not}
+use mathlib.Core.Path.{◌≡◌, refl, sym, ◌∙◌}
+use mathlib.Core.Bool.{Bool, true, false, ◌&&◌}
 use mathlib.Core.List.{List}
-use Prim.Native.Nat.{ℕ, ◌+◌, ◌≤◌, ◌<◌}
-use native.Mathlib.Omega.{arith}
-use borrow.Author.Count.{below_more}
-use Rattle.rules.specs.declared.Found.TheVariants.{At, Nothing}
-use Rattle.rules.specs.Snapshot.{count, kind, capability, control}
+use Prim.Native.Nat.{ℕ}
+use Rattle.rules.specs.Snapshot.{kind, capability, control}
 use Rattle.rules.specs.Records.{kind_fine, parent_fine, only_child, blank_fine, own_bus_fine, bus_order_fine, buses_apart, numbers_apart, ranges_fine}
-use Rattle.rules.specs.Records.{own_ranges_apart, ranges_apart, nested_fine, capability_fine, control_fine, fine, Keeps, faulty, lowest_faulty}
-use Rattle.rules.proofs.Logic.{both, and_both, same_test, not_false}
-use Rattle.rules.proofs.Loops.{Searching, search_hits, search_goes_on, search_ends, find_all}
+use Rattle.rules.specs.Records.{own_ranges_apart, ranges_apart, nested_fine, capability_fine, control_fine, fine, Keeps}
+use Rattle.rules.proofs.Logic.{both, and_both, same_test}
 use Rattle.rules.proofs.Sound.{keeps}
-use Rattle.records.specs.Parts.{registers_fine, fine_alone, apart, Earlier}
+use Rattle.records.specs.Parts.{registers_fine, fine_alone, apart}
 use Rattle.records.proofs.SiblingsLaws.{apart_rules}
 
 -- the rules that a record keeps by itself, by name
@@ -94,63 +90,10 @@ module _ (s : List ℕ) (i : ℕ) where
       (λ h.
       let (a, b) = both (fine_alone s i) (apart s i) h in joined (keeps_alone a) (sym (apart_rules s i) ∙ b))
 
--- the two rules that are tested first, and those behind them
-module _ (s : List ℕ) (i : ℕ) {k p : Bool} (ek : k ≡ kind_fine s i) (ep : p ≡ parent_fine s i) where
-  pub parent_so : (k && p) ≡ true → parent_fine s i ≡ true
-  parent_so h = sym ep ∙ (both k p h).1
-
-  pub alone_so : {b u o r a n g : Bool} → (k && p) ≡ true → b ≡ blank_fine s i → u ≡ own_bus_fine s i → o ≡ bus_order_fine s i
-      → r ≡ ranges_fine s i → a ≡ own_ranges_apart s i → n ≡ nested_fine s i → g ≡ registers_fine s i
-      → (b && u && o && r && a && n && g) ≡ fine_alone s i
-  unfolding fine_alone
-  alone_so h eb eu eo er ea en eg = rw (← ek, ← ep, h, eb, eu, eo, er, ea, en, eg)
-
-  pub alone_not : (k && p) ≡ false → false ≡ fine_alone s i
-  unfolding fine_alone
-  alone_not h = rw (← ek, ← ep, h)
-
 -- the rules of siblings come last
 module _ (s : List ℕ) (i : ℕ) {a : Bool} (ea : a ≡ fine_alone s i) where
-  pub alone_yes : a ≡ true → fine_alone s i ≡ true
-  alone_yes h = sym ea ∙ h
-
   pub fine_so : {c : Bool} → a ≡ true → c ≡ apart s i → c ≡ fine s i
   fine_so h ec = rw (fine_split s i, ← ea, h, ec)
 
-  pub fine_not : a ≡ false → false ≡ fine s i
+  pub fine_not : a ≡ false → a ≡ fine s i
   fine_not h = rw (fine_split s i, ← ea, h)
-
--- The search for the lowest faulty record has come to i: what is left of it gives the whole, and no record before is faulty.
-pub record Seeking (s : List ℕ) (n i : ℕ) : Type 0 where
-  pub all : n ≡ count s
-  pub within : i ≤ n
-  pub left : Searching (faulty s) n i (lowest_faulty s)
-  pub earlier : Earlier s i
-
-pub seek_starts : (s : List ℕ) {n : ℕ} → n ≡ count s → Seeking s n 0
-unfolding lowest_faulty
-seek_starts s {n} e =
-    record {
-      all = e;
-      within = omega arith;
-      left = record { left = find_all (faulty s) n (count s) e };
-      earlier = λ j l. absurd (omega arith);
-    }
-
-module _ {s : List ℕ} {n i : ℕ} (a : Seeking s n i) where
-  pub seek_hits : {b : Bool} → i < n → b ≡ fine s i → not b ≡ true → At i ≡ lowest_faulty s
-  unfolding faulty
-  seek_hits l e on = search_hits a.left l (ap not e) on
-
-  pub seek_goes_on : {b : Bool} → i < n → b ≡ fine s i → not b ≡ false → Seeking s n (i + 1)
-  unfolding faulty
-  seek_goes_on l e off =
-      record {
-        all = a.all;
-        within = omega arith;
-        left = search_goes_on a.left l (ap not e) off;
-        earlier = below_more _ _ a.earlier (sym e ∙ not_false off);
-      }
-
-  pub seek_ends : n ≤ i → Nothing ≡ lowest_faulty s
-  seek_ends l = search_ends a.left l

@@ -1,20 +1,19 @@
 -- Parts of the rules of document 01: what is said of one range or one bit, of a record without its siblings, and of two siblings.
-use Rattle.std.specs.Prelude.{◌≡◌, Bool, true, false, cond, ◌&&◌, ◌||◌, not, List, ℕ, ◌≤◌, ◌<◌}
+use Rattle.std.specs.Prelude.{◌≡◌, Bool, true, false, cond, ◌&&◌, ◌||◌, not, List, ℕ, ◌≤◌, ◌<◌, leb}
+use Rattle.rules.specs.declared.Range.{Range}
 use Rattle.rules.specs.Below.{any_below}
 use Rattle.rules.specs.Bytes.{bit}
-use Rattle.rules.specs.Snapshot.{kind, secondary, subordinate, capability, control, is_open}
-use Rattle.rules.specs.Records.{kind_fine, parent_fine, blank_fine, of_parent, own_bus_fine, bus_order_fine, ranges_fine, own_ranges_apart, nested_fine}
+use Rattle.rules.specs.Snapshot.{kind, capability, control, closed, is_open}
+use Rattle.rules.specs.Records.{kind_fine, parent_fine, blank_fine, own_bus_fine, bus_order_fine, ranges_fine, own_ranges_apart, nested_fine}
 use Rattle.rules.specs.Records.{siblings, under_port, buses_meet, numbers_meet, ranges_meet, inside, capability_fine, control_fine, fine}
 
--- the bus range of record i,
-pub record BusesOf (s : List ℕ) (i from to : ℕ) : Type 0 where
-  pub start : from ≡ secondary s i
-  pub end : to ≡ subordinate s i
+-- two ranges are open and have an address in common
+abbrev pub open_overlap : Range → Range → Bool
+open_overlap a b = not (closed a.first a.last) && (not (closed b.first b.last) && (leb a.first b.last && leb b.first a.last))
 
--- and the one that it stands under
-pub record BusesAbove (s : List ℕ) (i from to : ℕ) : Type 0 where
-  pub start : from ≡ of_parent s i 0 secondary
-  pub end : to ≡ of_parent s i 255 subordinate
+-- the window is open, and the range lies between its ends
+abbrev pub in_window : Range → Range → Bool
+in_window range window = not (closed window.first window.last) && (leb window.first range.first && leb range.last window.last)
 
 -- range k of i is closed or lies inside a window of p
 abbrev pub range_nested : List ℕ → ℕ → ℕ → ℕ → Bool

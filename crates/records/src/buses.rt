@@ -1,85 +1,75 @@
 // Rules of buses and of the numbers of ports.
-ghost use Rattle.std.specs.Prelude.{◌≡◌, true};
-ghost use Rattle.rules.specs.Snapshot.{HasRecord};
-ghost use Rattle.rules.specs.Records.{parent_fine, own_bus_fine, bus_order_fine, buses_meet, numbers_meet};
-ghost use Rattle.records.specs.Parts.{BusesOf, BusesAbove};
+ghost use Rattle.std.specs.Prelude.{◌≡◌};
+ghost use Rattle.rules.specs.Snapshot as snapshot;
+ghost use Rattle.rules.specs.Records.{own_bus_fine, bus_order_fine, buses_meet, numbers_meet, of_parent};
 
-use crate::parents::is_root_port;
-use layout::fields::{devfn, kind, own_bus, parent, port_number, secondary, subordinate};
-use layout::kinds::{is_bridge, is_port};
+use crate::pair::Pair;
+use crate::parents::Placed;
+use layout::buses::BusRange;
 use rules::Bus;
 
-// The buses from the secondary to the subordinate.
-#[derive(Clone, Copy)]
-struct BusRange {
-    secondary: Bus,
-    subordinate: Bus,
-}
+// What a root port stands under: it is on bus 0, and any bus may lie below it.
+const ALL_BUSES: BusRange = BusRange {
+    secondary: Bus(0),
+    subordinate: Bus(255),
+};
 
-fn bus_range(s: &[u8], i: u16) -> BusRange
-    requires { HasRecord s.now i }
-    ensures { BusesOf s.now i result.secondary.0 result.subordinate.0 }
-{
-    BusRange {
-        secondary: secondary(s, i),
-        subordinate: subordinate(s, i),
-    }
-}
-
-// The range that a record stands under: its parent's. A root port is on bus 0, and any bus may lie
-// below it.
-fn range_above(s: &[u8], i: u16) -> BusRange
-    requires { HasRecord s.now i × (parent_fine s.now i ≡ true) }
-    ensures { BusesAbove s.now i result.secondary.0 result.subordinate.0 }
-{
-    if is_root_port(s, i) {
-        return BusRange {
-            secondary: Bus(0),
-            subordinate: Bus(255),
-        };
-    }
-    bus_range(s, parent(s, i))
-}
-
-pub fn own_bus_fine(s: &[u8], i: u16) -> bool
-    requires { HasRecord s.now i × (parent_fine s.now i ≡ true) }
-    ensures { result ≡ own_bus_fine s.now i }
-{
-    own_bus(s, i).0 == range_above(s, i).secondary.0
-}
-
-pub fn bus_order_fine(s: &[u8], i: u16) -> bool
-    requires { HasRecord s.now i × (parent_fine s.now i ≡ true) }
-    ensures { result ≡ bus_order_fine s.now i }
-{
-    let below = bus_range(s, i);
-    let above = range_above(s, i);
-    !is_bridge(kind(s, i))
-        | ((own_bus(s, i).0 < below.secondary.0)
-            & (below.secondary.0 <= below.subordinate.0)
-            & (below.subordinate.0 <= above.subordinate.0))
-}
-
-// Most pairs are told apart by one comparison.
-pub fn buses_meet(s: &[u8], i: u16, j: u16) -> bool
-    requires { HasRecord s.now i × HasRecord s.now j }
-    ensures { result ≡ buses_meet s.now i j }
-{
-    let one = bus_range(s, i);
-    let other = bus_range(s, j);
-    if one.secondary.0 <= other.subordinate.0 {
-        if other.secondary.0 <= one.subordinate.0 {
-            return is_bridge(kind(s, i)) & is_bridge(kind(s, j));
+impl Placed<'_> {
+    // The range that a record stands under: its parent's.
+    fn buses_above(self) -> BusRange
+        ensures secondary { result.secondary.0
+            ≡ of_parent self.entry.node.bytes.now self.entry.node.index 0 snapshot.secondary }
+        ensures subordinate { result.subordinate.0
+            ≡ of_parent self.entry.node.bytes.now self.entry.node.index 255 snapshot.subordinate }
+    {
+        match self.above() {
+            None => ALL_BUSES,
+            Some(above) => above.bus_range(),
         }
     }
-    false
+
+    #[tactic(auto, unfolding(rules::specs::Records::own_bus_fine))]
+    pub fn own_bus_fine(self) -> bool
+        ensures { result ≡ own_bus_fine self.entry.node.bytes.now self.entry.node.index }
+    {
+        self.node.own_bus() == self.buses_above().secondary
+    }
+
+    #[tactic(auto, unfolding(rules::specs::Records::bus_order_fine))]
+    pub fn bus_order_fine(self) -> bool
+        ensures { result ≡ bus_order_fine self.entry.node.bytes.now self.entry.node.index }
+    {
+        let below = self.node.bus_range();
+        let above = self.buses_above();
+        !self.node.is_bridge()
+            || (self.node.own_bus() < below.secondary
+                && below.secondary <= below.subordinate
+                && below.subordinate <= above.subordinate)
+    }
 }
 
-pub fn numbers_meet(s: &[u8], i: u16, j: u16) -> bool
-    requires { HasRecord s.now i × HasRecord s.now j }
-    ensures { result ≡ numbers_meet s.now i j }
-{
-    is_port(kind(s, i))
-        & is_port(kind(s, j))
-        & ((port_number(s, i).0 == port_number(s, j).0) | (devfn(s, i) == devfn(s, j)))
+impl Pair<'_> {
+    // Most pairs are told apart by one comparison.
+    #[tactic(auto, unfolding(rules::specs::Records::buses_meet))]
+    pub fn buses_meet(self) -> bool
+        ensures { result ≡ buses_meet self.entry.one.bytes.now self.entry.one.index self.entry.other.index }
+    {
+        let one = self.one.bus_range();
+        let other = self.other.bus_range();
+        one.secondary <= other.subordinate
+            && other.secondary <= one.subordinate
+            && self.one.is_bridge()
+            && self.other.is_bridge()
+    }
+
+    // Most pairs are told apart by these two bytes.
+    #[tactic(auto, unfolding(rules::specs::Records::numbers_meet))]
+    pub fn numbers_meet(self) -> bool
+        ensures { result ≡ numbers_meet self.entry.one.bytes.now self.entry.one.index self.entry.other.index }
+    {
+        (self.one.port_number() == self.other.port_number()
+            || self.one.devfn() == self.other.devfn())
+            && self.one.is_port()
+            && self.other.is_port()
+    }
 }

@@ -1,55 +1,51 @@
 // When a record is faulty, and the lowest that is.
 ghost use Rattle.std.specs.Prelude.{◌≡◌, ◌≤◌, length};
 ghost use Rattle.rules.specs.Snapshot as snapshot;
-ghost use Rattle.rules.specs.Snapshot.{HasRecord, base};
+ghost use Rattle.rules.specs.Snapshot.{base};
 ghost use Rattle.rules.specs.Records.{fine, lowest_faulty};
 ghost use Rattle.records.specs.Parts.{fine_alone, Earlier};
 
-use crate::buses::{bus_order_fine, own_bus_fine};
-use crate::parents::{blank_fine, kind_fine, parent_fine};
-use crate::ranges::{nested_fine, own_ranges_apart, ranges_fine};
+use crate::parents::{Placed, blank_fine, kind_fine};
+use crate::ranges::{own_ranges_apart, ranges_fine};
 use crate::registers::registers_fine;
-use crate::siblings::apart;
-use layout::fields::count;
-use rules::Found;
+use crate::siblings::Next;
+use layout::record::Record;
+use layout::snapshot::Snapshot;
 
 // The rules past the second read the parent's record, which the second shows to be an earlier one.
-fn fine_alone(s: &[u8], i: u16) -> bool
-    requires { HasRecord s.now i }
-    ensures { result ≡ fine_alone s.now i }
+#[tactic(auto, unfolding(crate::specs::Parts::fine_alone))]
+fn fine_alone(r: Record<'_>) -> bool
+    ensures { result ≡ fine_alone r.entry.bytes.now r.entry.index }
 {
-    if kind_fine(s, i) & parent_fine(s, i) {
-        return blank_fine(s, i)
-            & own_bus_fine(s, i)
-            & bus_order_fine(s, i)
-            & ranges_fine(s, i)
-            & own_ranges_apart(s, i)
-            & nested_fine(s, i)
-            & registers_fine(s, i);
+    if !kind_fine(r) {
+        return false;
     }
-    false
+    match Placed::of(r) {
+        None => false,
+        Some(placed) => {
+            blank_fine(r)
+                && placed.own_bus_fine()
+                && placed.bus_order_fine()
+                && ranges_fine(r)
+                && own_ranges_apart(r)
+                && placed.nested_fine()
+                && registers_fine(r)
+        }
+    }
 }
 
 // A record is held against earlier ones once it and they are known to be right by themselves.
-pub fn fine(s: &[u8], i: u16) -> bool
-    requires { HasRecord s.now i × Earlier s.now i }
-    ensures { result ≡ fine s.now i }
+pub fn fine(r: Record<'_>) -> bool
+    requires { Earlier r.bytes.now r.index }
+    ensures { result ≡ fine r.entry.bytes.now r.entry.index }
 {
-    if fine_alone(s, i) {
-        return apart(s, i);
-    }
-    false
+    fine_alone(r) && Next { node: r }.apart()
 }
 
-pub fn lowest_faulty(s: &[u8]) -> Found
-    requires { base (snapshot.count s.now) ≤ length s.now }
-    ensures { result ≡ lowest_faulty s.now }
+// The search has come to a record only where none before it is faulty.
+pub fn lowest_faulty(s: Snapshot<'_>) -> Option<u16>
+    requires { base (snapshot.count s.bytes.now) ≤ length s.bytes.now }
+    ensures { result ≡ lowest_faulty s.entry.bytes.now }
 {
-    let n = count(s);
-    for i in 0..n {
-        if !fine(s, i) {
-            return Found::At(i);
-        }
-    }
-    Found::Nothing
+    (0..s.count()).find(|i| !fine(s.record(*i)))
 }

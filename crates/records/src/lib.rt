@@ -4,6 +4,7 @@
 
 mod buses;
 pub mod faulty;
+mod pair;
 mod parents;
 mod ranges;
 mod registers;

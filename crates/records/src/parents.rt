@@ -1,68 +1,103 @@
 // Rules of a record's kind and parent, and of the bytes that its kind leaves blank.
-ghost use Rattle.std.specs.Prelude.{◌≡◌};
+ghost use Rattle.std.specs.Prelude.{◌≡◌, ◌<◌, true, is_some, is_none, IfSome};
 ghost use Rattle.rules.specs.Snapshot as snapshot;
-ghost use Rattle.rules.specs.Snapshot.{HasRecord, is_root};
 ghost use Rattle.rules.specs.Records.{kind_fine, stands_under, parent_fine, under_port, blank_fine};
 
-use layout::fields::{COMPLEX, devfn, kind, parent, port_number, secondary, subordinate};
-use layout::kinds::{is_downstream, is_endpoint, is_port, is_root, is_upstream};
+use layout::COMPLEX;
+use layout::kind::Kind;
+use layout::record::Record;
+use rules::{Bus, PortNumber};
 
-pub fn kind_fine(s: &[u8], i: u16) -> bool
-    requires { HasRecord s.now i }
-    ensures { result ≡ kind_fine s.now i }
+#[tactic(auto, unfolding(rules::specs::Records::kind_fine))]
+pub fn kind_fine(r: Record<'_>) -> bool
+    ensures { result ≡ kind_fine r.entry.bytes.now r.entry.index }
 {
-    let kind = kind(s, i);
-    (1 <= kind) & (kind <= 4) & numbers::is_zero(s, 24 + 144 * (i as usize) + 12, 4)
+    r.kind().is_ok() && r.is_zero(12, 4)
 }
 
-fn stands_under(kind: u8, above: u8) -> bool
-    ensures { result ≡ stands_under kind above }
+fn stands_under(r: Record<'_>, above: Record<'_>) -> bool
+    ensures { result
+        ≡ stands_under (snapshot.kind r.entry.bytes.now r.entry.index)
+        (snapshot.kind above.entry.bytes.now above.entry.index) }
 {
-    if is_downstream(kind) {
-        is_upstream(above)
+    if r.is(Kind::Downstream) {
+        above.is(Kind::Upstream)
     } else {
-        is_port(above)
+        above.is_port()
     }
 }
 
-// A root port, which alone has no parent.
-pub fn is_root_port(s: &[u8], i: u16) -> bool
-    requires { HasRecord s.now i }
-    ensures { result ≡ is_root (snapshot.kind s.now i) }
+// Record j, an earlier one of the same snapshot.
+pub fn earlier<'a>(r: Record<'a>, j: u16) -> Record<'a>
+    requires { j < r.index }
+    ensures bytes { result.bytes.now ≡ r.entry.bytes.now }
+    ensures index { result.index ≡ j }
 {
-    is_root(kind(s, i))
+    Record {
+        bytes: r.bytes,
+        index: j,
+    }
 }
 
 // The parent's kind is read only where the parent is an earlier record.
-pub fn parent_fine(s: &[u8], i: u16) -> bool
-    requires { HasRecord s.now i }
-    ensures { result ≡ parent_fine s.now i }
+#[tactic(auto, unfolding(rules::specs::Records::parent_fine))]
+pub fn parent_fine(r: Record<'_>) -> bool
+    ensures { result ≡ parent_fine r.entry.bytes.now r.entry.index }
 {
-    let above = parent(s, i);
-    if is_root_port(s, i) {
+    let above = r.parent();
+    if r.is(Kind::Root) {
         return above == COMPLEX;
     }
-    if above < i {
-        return stands_under(kind(s, i), kind(s, above));
+    above < r.index && stands_under(r, earlier(r, above))
+}
+
+// A record whose parent is right: a root port, or one that stands under an earlier record.
+#[derive(Clone, Copy)]
+pub struct Placed<'a> {
+    pub node: Record<'a>,
+    pub ghost placed: { parent_fine node.bytes.now node.index ≡ true },
+}
+
+impl<'a> Placed<'a> {
+    pub fn of(node: Record<'a>) -> Option<Placed<'a>>
+        ensures placed { is_some result ≡ parent_fine node.entry.bytes.now node.entry.index }
+        ensures bytes { IfSome result (λ p. p.node.bytes.now ≡ node.entry.bytes.now) }
+        ensures index { IfSome result (λ p. p.node.index ≡ node.entry.index) }
+    {
+        if parent_fine(node) {
+            Some(Placed { node })
+        } else {
+            None
+        }
     }
-    false
+
+    // The parent, which a root port, and it alone, does without.
+    #[tactic(auto, unfolding(rules::specs::Records::parent_fine))]
+    pub fn above(self) -> Option<Record<'a>>
+        ensures root { is_none result
+            ≡ snapshot.is_root (snapshot.kind self.entry.node.bytes.now self.entry.node.index) }
+        ensures bytes { IfSome result (λ above. above.bytes.now ≡ self.entry.node.bytes.now) }
+        ensures index { IfSome result
+            (λ above. above.index ≡ snapshot.parent self.entry.node.bytes.now self.entry.node.index) }
+    {
+        if self.node.is(Kind::Root) {
+            return None;
+        }
+        Some(earlier(self.node, self.node.parent()))
+    }
 }
 
 // A kind that stands under a port, which has at most one child.
-pub fn under_port(kind: u8) -> bool
-    ensures { result ≡ under_port kind }
+pub fn under_port(r: Record<'_>) -> bool
+    ensures { result ≡ under_port (snapshot.kind r.entry.bytes.now r.entry.index) }
 {
-    is_upstream(kind) | is_endpoint(kind)
+    r.is(Kind::Upstream) || r.is(Kind::Endpoint)
 }
 
-pub fn blank_fine(s: &[u8], i: u16) -> bool
-    requires { HasRecord s.now i }
-    ensures { result ≡ blank_fine s.now i }
+#[tactic(auto, unfolding(rules::specs::Records::blank_fine))]
+pub fn blank_fine(r: Record<'_>) -> bool
+    ensures { result ≡ blank_fine r.entry.bytes.now r.entry.index }
 {
-    let kind = kind(s, i);
-    (!under_port(kind)
-        | ((port_number(s, i).0 == 0)
-            & (devfn(s, i) == 0)
-            & numbers::is_zero(s, 24 + 144 * (i as usize) + 8, 40)))
-        & (!is_endpoint(kind) | ((secondary(s, i).0 == 0) & (subordinate(s, i).0 == 0)))
+    (!under_port(r) || (r.port_number() == PortNumber(0) && r.devfn() == 0 && r.is_zero(8, 40)))
+        && (!r.is(Kind::Endpoint) || (r.secondary() == Bus(0) && r.subordinate() == Bus(0)))
 }

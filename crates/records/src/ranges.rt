@@ -1,141 +1,131 @@
 // Rules of address ranges: what a node may have, that no two overlap, and that each lies in a window.
 ghost use Rattle.std.specs.Prelude.{◌≡◌, true, ◌≤◌, ◌<◌};
 ghost use Rattle.rules.specs.Below.{any_below, all_below};
-ghost use Rattle.rules.specs.Snapshot.{HasRecord};
-ghost use Rattle.rules.specs.Records.{parent_fine, window_fine, range_fine, ranges_fine, overlap, own_ranges_apart, ranges_meet, inside, nested_fine};
-ghost use Rattle.records.specs.Parts.{range_nested};
+ghost use Rattle.rules.specs.Records.{window_fine, range_fine, ranges_fine, overlap, own_ranges_apart, ranges_meet};
+ghost use Rattle.rules.specs.Records.{inside, nested_fine};
+ghost use Rattle.records.specs.Parts.{open_overlap, in_window, range_nested};
 
-use crate::parents::is_root_port;
-use layout::fields::{closed, first, is_open, kind, last, parent};
-use layout::kinds::is_bridge;
+use crate::pair::Pair;
+use crate::parents::Placed;
+use layout::range::{closed, is_open};
+use layout::record::Record;
+use rules::Range;
 
-fn window_fine(k: u16, first: u64, last: u64) -> bool
-    ensures { result ≡ window_fine k first last }
+fn window_fine(k: u16, range: Range) -> bool
+    ensures { result ≡ window_fine k range.first range.last }
 {
-    (k < 2)
-        & (first <= last)
-        & (first % 0x100000 == 0)
-        & (last % 0x100000 == 0xFFFFF)
-        & (!(k == 0) | (last < 0x100000000))
+    k < 2
+        && range.first <= range.last
+        && range.first % 0x100000 == 0
+        && range.last % 0x100000 == 0xFFFFF
+        && (k != 0 || range.last < 0x100000000)
 }
 
-fn range_fine(s: &[u8], i: u16, k: u16) -> bool
-    requires { HasRecord s.now i × (k < 6) }
-    ensures { result ≡ range_fine s.now i k }
+#[tactic(auto, unfolding(rules::specs::Records::range_fine))]
+fn range_fine(r: Record<'_>, k: u16) -> bool
+    requires { k < 6 }
+    ensures { result ≡ range_fine r.entry.bytes.now r.entry.index k }
 {
-    let first = first(s, i, k);
-    let last = last(s, i, k);
-    if closed(first, last) {
+    let range = r.range(k);
+    if closed(range.first, range.last) {
         return true;
     }
-    if is_bridge(kind(s, i)) {
-        window_fine(k, first, last)
+    if r.is_bridge() {
+        window_fine(k, range)
     } else {
-        numbers::span_fine(first, last)
+        numbers::span_fine(range.first, range.last)
     }
 }
 
-pub fn ranges_fine(s: &[u8], i: u16) -> bool
-    requires { HasRecord s.now i }
-    ensures { result ≡ ranges_fine s.now i }
+pub fn ranges_fine(r: Record<'_>) -> bool
+    ensures { result ≡ ranges_fine r.entry.bytes.now r.entry.index }
 {
-    let mut ok = true;
-    for k in 0..6 {
-        ok = ok & range_fine(s, i, k);
-    }
-    ok
+    (0..6).all(|k| range_fine(r, k))
 }
 
-// Most pairs are told apart by one comparison.
-fn overlap(s: &[u8], i: u16, k: u16, j: u16, m: u16) -> bool
-    requires { HasRecord s.now i × (k < 6) × HasRecord s.now j × (m < 6) }
-    ensures { result ≡ overlap s.now i k j m }
+// Both ranges are open and have an address in common. Most pairs are told apart by one comparison.
+fn overlap(a: Range, b: Range) -> bool
+    ensures { result ≡ open_overlap a b }
 {
-    if first(s, i, k) <= last(s, j, m) {
-        if first(s, j, m) <= last(s, i, k) {
-            return is_open(s, i, k) & is_open(s, j, m);
+    a.first <= b.last && b.first <= a.last && is_open(a) && is_open(b)
+}
+
+// The window is open, and the range lies between its ends.
+fn inside(range: Range, window: Range) -> bool
+    ensures { result ≡ in_window range window }
+{
+    is_open(window) && window.first <= range.first && range.last <= window.last
+}
+
+impl Pair<'_> {
+    // Range k of one overlaps range m of the other: numbers below 6, as `(0..6)` gives them.
+    #[tactic(auto, unfolding(rules::specs::Records::overlap))]
+    fn overlap(self, k: u16, m: u16) -> bool
+        requires { (k < 6) × (m < 6) }
+        ensures { result ≡ overlap self.entry.one.bytes.now self.entry.one.index k self.entry.other.index m }
+    {
+        overlap(self.one.range(k), self.other.range(m))
+    }
+
+    // Range k of one overlaps one of the first n of the other: a closed range is done at once.
+    fn overlaps(self, k: u16, n: u16) -> bool
+        requires { (k < 6) × (n ≤ 6) }
+        ensures { result
+            ≡ any_below n (overlap self.entry.one.bytes.now self.entry.one.index k self.entry.other.index) }
+    {
+        is_open(self.one.range(k)) && (0..n).any(|m| self.overlap(k, m))
+    }
+
+    // Of bridges no range but the two windows is open.
+    pub fn ranges_meet(self) -> bool
+        requires one { ranges_fine self.one.bytes.now self.one.index ≡ true }
+        requires other { ranges_fine self.other.bytes.now self.other.index ≡ true }
+        ensures { result ≡ ranges_meet self.entry.one.bytes.now self.entry.one.index self.entry.other.index }
+    {
+        if self.one.is_bridge() && self.other.is_bridge() {
+            return (0..2).any(|k| self.overlaps(k, 2));
         }
+        (0..6).any(|k| self.overlaps(k, 6))
     }
-    false
-}
 
-// Range k of i overlaps one of the first n of j: a closed range is done at once.
-fn overlaps(s: &[u8], i: u16, k: u16, j: u16, n: u16) -> bool
-    requires { HasRecord s.now i × (k < 6) × HasRecord s.now j × (n ≤ 6) }
-    ensures { result ≡ any_below n (overlap s.now i k j) }
-{
-    if !is_open(s, i, k) {
-        return false;
+    // Range k of one is closed or lies inside one of the two windows of the other.
+    #[tactic(auto, unfolding(rules::specs::Records::inside, rules::specs::Below::any_below))]
+    fn range_nested(self, k: u16) -> bool
+        requires { k < 6 }
+        ensures { result ≡ range_nested self.entry.one.bytes.now self.entry.one.index self.entry.other.index k }
+    {
+        let range = self.one.range(k);
+        !is_open(range) || inside(range, self.other.range(0)) || inside(range, self.other.range(1))
     }
-    let mut found = false;
-    for m in 0..n {
-        found = found | overlap(s, i, k, j, m);
+
+    fn ranges_nested(self) -> bool
+        ensures { result
+            ≡ all_below 6 (range_nested self.entry.one.bytes.now self.entry.one.index self.entry.other.index) }
+    {
+        (0..6).all(|k| self.range_nested(k))
     }
-    found
 }
 
 // No range overlaps one before it.
-pub fn own_ranges_apart(s: &[u8], i: u16) -> bool
-    requires { HasRecord s.now i }
-    ensures { result ≡ own_ranges_apart s.now i }
+pub fn own_ranges_apart(r: Record<'_>) -> bool
+    ensures { result ≡ own_ranges_apart r.entry.bytes.now r.entry.index }
 {
-    let mut found = false;
-    for k in 0..6 {
-        found = found | overlaps(s, i, k, i, k);
-    }
-    !found
+    let itself = Pair { one: r, other: r };
+    !(0..6).any(|k| itself.overlaps(k, k))
 }
 
-// Of bridges no range but the two windows is open.
-pub fn ranges_meet(s: &[u8], i: u16, j: u16) -> bool
-    requires { HasRecord s.now i × HasRecord s.now j × (ranges_fine s.now i ≡ true) × (ranges_fine s.now j ≡ true) }
-    ensures { result ≡ ranges_meet s.now i j }
-{
-    if is_bridge(kind(s, i)) & is_bridge(kind(s, j)) {
-        return overlaps(s, i, 0, j, 2) | overlaps(s, i, 1, j, 2);
+impl Placed<'_> {
+    #[tactic(auto, unfolding(rules::specs::Records::nested_fine))]
+    pub fn nested_fine(self) -> bool
+        ensures { result ≡ nested_fine self.entry.node.bytes.now self.entry.node.index }
+    {
+        match self.above() {
+            None => true,
+            Some(above) => Pair {
+                one: self.node,
+                other: above,
+            }
+            .ranges_nested(),
+        }
     }
-    let mut found = false;
-    for k in 0..6 {
-        found = found | overlaps(s, i, k, j, 6);
-    }
-    found
-}
-
-fn inside(s: &[u8], i: u16, k: u16, p: u16, m: u16) -> bool
-    requires { HasRecord s.now i × (k < 6) × HasRecord s.now p × (m < 6) }
-    ensures { result ≡ inside s.now i k p m }
-{
-    is_open(s, p, m) & ((first(s, p, m) <= first(s, i, k)) & (last(s, i, k) <= last(s, p, m)))
-}
-
-// Range k of i is closed or lies inside one of the two windows of p.
-fn range_nested(s: &[u8], i: u16, p: u16, k: u16) -> bool
-    requires { HasRecord s.now i × (k < 6) × HasRecord s.now p }
-    ensures { result ≡ range_nested s.now i p k }
-{
-    if is_open(s, i, k) {
-        return inside(s, i, k, p, 0) | inside(s, i, k, p, 1);
-    }
-    true
-}
-
-fn ranges_nested(s: &[u8], i: u16, p: u16) -> bool
-    requires { HasRecord s.now i × HasRecord s.now p }
-    ensures { result ≡ all_below 6 (range_nested s.now i p) }
-{
-    let mut ok = true;
-    for k in 0..6 {
-        ok = ok & range_nested(s, i, p, k);
-    }
-    ok
-}
-
-pub fn nested_fine(s: &[u8], i: u16) -> bool
-    requires { HasRecord s.now i × (parent_fine s.now i ≡ true) }
-    ensures { result ≡ nested_fine s.now i }
-{
-    if is_root_port(s, i) {
-        return true;
-    }
-    ranges_nested(s, i, parent(s, i))
 }

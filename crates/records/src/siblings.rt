@@ -1,70 +1,87 @@
 // Rules between a record and its earlier siblings.
-ghost use Rattle.std.specs.Prelude.{◌≡◌, true};
-ghost use Rattle.rules.specs.Snapshot.{HasRecord};
+ghost use Rattle.std.specs.Prelude.{◌≡◌, ◌<◌, true};
 ghost use Rattle.rules.specs.Below.{any_below};
-ghost use Rattle.rules.specs.Records.{parent_fine, siblings, ranges_fine};
+ghost use Rattle.rules.specs.Records.{siblings, ranges_fine};
 ghost use Rattle.records.specs.Parts.{conflict, apart, fine_alone, Earlier, Behind};
 
-use crate::buses::{buses_meet, numbers_meet};
-use crate::parents::{is_root_port, under_port};
-use crate::ranges::ranges_meet;
-use layout::fields::{kind, parent};
+use crate::pair::Pair;
+use crate::parents::{Placed, earlier, under_port};
+use layout::record::Record;
 
-// Siblings i and j have buses, numbers or addresses in common. Most pairs of records are no siblings,
-// and are done with one look at the parents.
-fn conflict(s: &[u8], i: u16, j: u16) -> bool
-    requires { HasRecord s.now i × HasRecord s.now j × (ranges_fine s.now i ≡ true) × (ranges_fine s.now j ≡ true) }
-    ensures { result ≡ conflict s.now i j }
-{
-    if parent(s, i) == parent(s, j) {
-        return buses_meet(s, i, j) | numbers_meet(s, i, j) | ranges_meet(s, i, j);
+impl Pair<'_> {
+    // The two are siblings with buses, numbers or addresses in common. Most pairs of records are no
+    // siblings, and are done with one look at the parents.
+    #[tactic(auto, unfolding(crate::specs::Parts::conflict))]
+    fn conflict(self) -> bool
+        requires one { ranges_fine self.one.bytes.now self.one.index ≡ true }
+        requires other { ranges_fine self.other.bytes.now self.other.index ≡ true }
+        ensures { result ≡ conflict self.entry.one.bytes.now self.entry.one.index self.entry.other.index }
+    {
+        self.one.parent() == self.other.parent()
+            && (self.buses_meet() || self.numbers_meet() || self.ranges_meet())
     }
-    false
 }
 
-// The first record that may be a sibling of i: earlier records stand behind their parents, so that
-// none up to i's parent has the same.
-fn first_sibling(s: &[u8], i: u16) -> u16
-    requires { HasRecord s.now i × (parent_fine s.now i ≡ true) × Earlier s.now i }
-    ensures { Behind s.now i result }
-{
-    if is_root_port(s, i) {
-        return 0;
-    }
-    parent(s, i) + 1
+// A record that keeps the rules by itself, behind records of which none is faulty.
+#[derive(Clone, Copy)]
+pub struct Next<'a> {
+    pub node: Record<'a>,
+    pub ghost alone: { fine_alone node.bytes.now node.index ≡ true },
+    pub ghost earlier: { Earlier node.bytes.now node.index },
 }
 
-fn has_sibling(s: &[u8], i: u16, from: u16) -> bool
-    requires { HasRecord s.now i × Behind s.now i from }
-    ensures { result ≡ any_below i (siblings s.now i) }
-{
-    let above = parent(s, i);
-    let mut found = false;
-    for j in from..i {
-        found = found | (above == parent(s, j));
+impl Next<'_> {
+    // The first record that may be a sibling: earlier records stand behind their parents, so that
+    // none up to this one's parent has the same.
+    fn first_sibling(self) -> u16
+        ensures { Behind self.entry.node.bytes.now self.entry.node.index result }
+    {
+        match (Placed { node: self.node }).above() {
+            None => 0,
+            Some(above) => above.index + 1,
+        }
     }
-    found
-}
 
-fn has_conflict(s: &[u8], i: u16, from: u16) -> bool
-    requires { HasRecord s.now i × (fine_alone s.now i ≡ true) × Earlier s.now i × Behind s.now i from }
-    ensures { result ≡ any_below i (conflict s.now i) }
-{
-    let mut found = false;
-    for j in from..i {
-        found = found | conflict(s, i, j);
+    fn sibling(self, j: u16) -> bool
+        requires { j < self.node.index }
+        ensures { result ≡ siblings self.entry.node.bytes.now self.entry.node.index j }
+    {
+        self.node.parent() == earlier(self.node, j).parent()
     }
-    found
-}
 
-// What stands under a port may have no sibling; any other record, none that it is in conflict with.
-pub fn apart(s: &[u8], i: u16) -> bool
-    requires { HasRecord s.now i × (fine_alone s.now i ≡ true) × Earlier s.now i }
-    ensures { result ≡ apart s.now i }
-{
-    let from = first_sibling(s, i);
-    if under_port(kind(s, i)) {
-        return !has_sibling(s, i, from);
+    fn conflict(self, j: u16) -> bool
+        requires { j < self.node.index }
+        ensures { result ≡ conflict self.entry.node.bytes.now self.entry.node.index j }
+    {
+        Pair {
+            one: self.node,
+            other: earlier(self.node, j),
+        }
+        .conflict()
     }
-    !has_conflict(s, i, from)
+
+    // This and `has_conflict` differ in their test alone, and are one line each.
+    fn has_sibling(self) -> bool
+        ensures { result ≡ any_below self.entry.node.index (siblings self.entry.node.bytes.now self.entry.node.index) }
+    {
+        (self.first_sibling()..self.node.index).any(|j| self.sibling(j))
+    }
+
+    fn has_conflict(self) -> bool
+        ensures { result ≡ any_below self.entry.node.index (conflict self.entry.node.bytes.now self.entry.node.index) }
+    {
+        (self.first_sibling()..self.node.index).any(|j| self.conflict(j))
+    }
+
+    // What stands under a port may have no sibling; any other record, none that it is in conflict
+    // with.
+    #[tactic(auto, unfolding(crate::specs::Parts::apart))]
+    pub fn apart(self) -> bool
+        ensures { result ≡ apart self.entry.node.bytes.now self.entry.node.index }
+    {
+        if under_port(self.node) {
+            return !self.has_sibling();
+        }
+        !self.has_conflict()
+    }
 }

@@ -1,12 +1,10 @@
 -- The input of `acsroute`: a 2-byte length, the snapshot, now (8 bytes), then one query: origin (2), header length (1), header.
 -- Numbers are little-endian.
-use Rattle.std.specs.Prelude.{Bool, cond, List, ℕ, ◌+◌, eqb, length, take, drop}
+use Rattle.std.specs.Prelude.{Bool, cond, Option, None, Some, List, ℕ, ◌+◌, eqb, length, take, drop}
 use Rattle.rules.specs.Bytes.{byte, le}
 use Rattle.rules.specs.Route.{Trip}
 use Rattle.rules.specs.Bound.{room_for_all}
 use Rattle.rules.specs.Refuse.{Result, result}
-use Rattle.report.specs.declared.frame.Frame.{Frame}
-use Rattle.report.specs.declared.frame.Frame.TheVariants.{Whole, Broken}
 
 abbrev pub snapshot_length : List ℕ → ℕ
 snapshot_length b = le 2 b 0
@@ -26,9 +24,9 @@ header_start b = snapshot_end b + 11
 unfoldable pub whole : List ℕ → Bool
 whole b = eqb (length b) (header_start b + header_length b)
 
--- how the input is framed: whole, with the length of the snapshot
-unfoldable pub framed : List ℕ → Frame
-framed b = cond (whole b) (Whole (snapshot_length b)) Broken
+-- how the input is framed: whole, with the length of the snapshot, or not
+unfoldable pub framed : List ℕ → Option ℕ
+framed b = cond (whole b) (Some (snapshot_length b)) None
 
 -- the parts
 abbrev pub snapshot_of : List ℕ → List ℕ

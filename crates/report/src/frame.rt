@@ -2,30 +2,18 @@
 ghost use Rattle.std.specs.Prelude.{◌≡◌};
 ghost use Rattle.report.specs.Framing.{framed};
 
-use numbers::le_u16;
+use numbers::le;
 
-// An input as long as its two lengths say, with that of its snapshot; or one that is shorter or longer.
-#[derive(Clone, Copy)]
-pub enum Frame {
-    Whole(u16),
-    Broken,
-}
-
-// The least input has 13 bytes beside its snapshot and its header.
-pub fn read_frame(input: &[u8]) -> Frame
+// The length of its snapshot, of an input as long as its two lengths say; none of one that is shorter
+// or longer. Lengths are widened by `as`, as in `tell`. The least input has 13 bytes beside its snapshot and its header.
+pub fn read_frame(input: &[u8]) -> Option<u16>
     ensures { result ≡ framed input.now }
 {
     if input.len() < 13 {
-        return Frame::Broken;
+        return None;
     }
-    let snapshot = le_u16(input, 0);
+    let snapshot = le::<u16>(input, 0);
     let at = (snapshot as usize) + 12;
-    if input.len() <= at {
-        return Frame::Broken;
-    }
-    let header = input[at] as usize;
-    if input.len() - at == header + 1 {
-        return Frame::Whole(snapshot);
-    }
-    Frame::Broken
+    let header = *input.get(at)? as usize;
+    (input.len() - at == header + 1).then_some(snapshot)
 }

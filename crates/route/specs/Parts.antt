@@ -1,11 +1,10 @@
 -- What an answer promises, and the parts of it that a function of their own works out.
 use Rattle.std.specs.Prelude.{◌≡◌, List, [], ◌∷◌, ℕ}
-use Rattle.rules.specs.declared.Answer.{Answer}
 use Rattle.rules.specs.declared.Tlp.{Tlp}
 use Rattle.rules.specs.Fabric.{shape_of, setting_of}
 use Rattle.rules.specs.Route.{Trip, route}
 use Rattle.rules.specs.Refuse.{Result, answered, through, unless, fits, query_gates, routed, written}
-use Rattle.rules.specs.Word.{answer_fields, result_fields}
+use Rattle.rules.specs.Word.{Answer, answer_fields, result_fields}
 
 -- The answer a has the numbers of the result x, and the buffer b ends as x leaves it.
 pub record Answers (x : Result Trip) (b : List ℕ) (a : Answer) (b₁ : List ℕ) : Type 0 where

@@ -12,15 +12,12 @@ use Rattle.rules.specs.declared.Outcome.{Outcome}
 use Rattle.rules.specs.declared.Outcome.TheVariants.{Delivered, Host, Unclaimed, Undefined, Violated}
 use Rattle.rules.specs.declared.Refusal.{Refusal}
 use Rattle.rules.specs.declared.Refusal.TheVariants.{Malformed, Version, Time, Faulty, Origin, Header, Room, Length, Capabilities}
-use Rattle.rules.specs.declared.Check.{Check}
-use Rattle.rules.specs.declared.Check.TheVariants as check
-use Rattle.rules.specs.declared.Answer.{Answer}
-use Rattle.rules.specs.declared.Answer.TheVariants.{Refused, Ended}
-use Rattle.rules.specs.declared.Fill.{Fill}
-use Rattle.rules.specs.declared.Fill.TheVariants as fill
+use Rattle.rules.specs.declared.Refused.{Refused}
+use Rattle.rules.specs.declared.Extent.{Extent}
+use Rattle.std.specs.Prelude.{Ok, Err}
 use Rattle.rules.specs.Refuse.{Result, refused, answered, verdict}
-use Rattle.rules.specs.Fill.{Extent, filling}
-use Rattle.rules.specs.Word.{Fields, number_of, end_fields, verdict_of, answer_fields, fill_of}
+use Rattle.rules.specs.Fill.{filling}
+use Rattle.rules.specs.Word.{Check, Answer, Fill, Fields, number_of, end_fields, verdict_of, answer_fields, fill_of}
 
 -- the refusal that has this number
 abbrev pub refusal_of : ℕ → Refusal
@@ -45,14 +42,21 @@ refusal_back Room = refl
 refusal_back Length = refl
 refusal_back Capabilities = refl
 
+-- a refusal by its number, and its index
+abbrev pub refused_with : ℕ → ℕ → Refused
+refused_with n i = record { why = refusal_of n; index = i }
+
+pub refused_back : (x : Refused) → refused_with (number_of x.why) x.index ≡ x
+refused_back x = ap (λ (w : Refusal). record { why = w; index = x.index }) (refusal_back x.why)
+
 check_of : Result (Unit {0}) → Check
-check_of (refused n i) = check.Refused (refusal_of n) i
-check_of (answered ok) = check.Accepted
+check_of (refused n i) = Err (refused_with n i)
+check_of (answered ok) = Ok tt
 
 check_back : (c : Check) → check_of (verdict_of c) ≡ c
 unfolding check_of
-check_back check.Accepted = refl
-check_back (check.Refused why i) = ap (λ (w : Refusal). check.Refused w i) (refusal_back why)
+check_back (Ok ok) = refl
+check_back (Err x) = ap (λ (w : Refused). Err w) (refused_back x)
 
 pub check_once : (s : List ℕ) (time : ℕ) (a b : Check) → verdict_of a ≡ verdict s time → verdict_of b ≡ verdict s time → a ≡ b
 check_once s time a b p q = sym (check_back a) ∙ ap check_of (p ∙ sym q) ∙ check_back b
@@ -100,24 +104,24 @@ end_kind (Undefined i) n = omega arith
 end_kind (Violated l i a) n = omega arith
 
 abbrev answer_of : Fields → Answer
-answer_of x = cond (eqb x.kind 6) (Refused (refusal_of x.detail) x.node) (Ended (end_of x) x.count)
+answer_of x = cond (eqb x.kind 6) (Err (refused_with x.detail x.node)) (Ok (record { end = end_of x; count = x.count }))
 
 answer_back : (a : Answer) → answer_of (answer_fields a) ≡ a
-answer_back (Refused why i) = ap (λ (w : Refusal). Refused w i) (refusal_back why)
-answer_back (Ended end n) =
-    let l = end_kind end n in
-    rw (ne_eqb (end_fields end n).kind 6 (λ z. omega arith), end_back end n, end_count end n)
+answer_back (Err x) = ap (λ (w : Refused). Err w) (refused_back x)
+answer_back (Ok x) =
+    let l = end_kind x.end x.count in
+    rw (ne_eqb (end_fields x.end x.count).kind 6 (λ z. omega arith), end_back x.end x.count, end_count x.end x.count)
 
 pub answer_once : (a b : Answer) (x : Fields) → answer_fields a ≡ x → answer_fields b ≡ x → a ≡ b
 answer_once a b x p q = sym (answer_back a) ∙ ap answer_of (p ∙ sym q) ∙ answer_back b
 
 abbrev fill_from : Result Extent → Fill
-fill_from (refused n i) = fill.Refused (refusal_of n) i
-fill_from (answered x) = fill.Filled x.offset x.length
+fill_from (refused n i) = Err (refused_with n i)
+fill_from (answered x) = Ok x
 
 fill_back : (f : Fill) → fill_from (fill_of f) ≡ f
-fill_back (fill.Refused why i) = ap (λ (w : Refusal). fill.Refused w i) (refusal_back why)
-fill_back (fill.Filled offset length) = refl
+fill_back (Err x) = ap (λ (w : Refused). Err w) (refused_back x)
+fill_back (Ok x) = refl
 
 pub fill_once : (image r : List ℕ) (a b : Fill) → fill_of a ≡ filling image r → fill_of b ≡ filling image r → a ≡ b
 fill_once image r a b p q = sym (fill_back a) ∙ ap fill_from (p ∙ sym q) ∙ fill_back b

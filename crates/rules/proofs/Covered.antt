@@ -5,7 +5,6 @@ use Prim.Native.Nat.{ℕ, ◌≤◌, ◌<◌}
 use native.Mathlib.Omega.{arith}
 use lib.Dec.{eqb, leb}
 use borrow.Author.Tests.{eqb-true, leb-true, le-leb}
-use Rattle.rules.specs.declared.Found.TheVariants.{Nothing}
 use Rattle.rules.specs.declared.Letter.TheVariants.{Source, Translation, Egress, Validation}
 use Rattle.rules.specs.declared.Outcome.{Outcome}
 use Rattle.rules.specs.declared.Outcome.TheVariants.{Delivered, Host, Unclaimed, Undefined, Violated}
@@ -26,6 +25,7 @@ use Rattle.rules.proofs.Logic.{contradiction, among_case, both, and_both, either
 use Rattle.rules.proofs.Loops.{find_none}
 use Rattle.rules.proofs.Sound.{downstream_port, port_no_endpoint}
 use Rattle.rules.proofs.Steps.{Descending, next_descending, down_induction, Claims, peer_claims, decide_case, Ascends, ascends, up_induction, entry_in}
+use Rattle.std.specs.Prelude.{None}
 
 -- a delivery that is not checked is unvalidated
 abbrev pub unvalidated : Outcome → Bool
@@ -183,7 +183,7 @@ validation_no_egress e = let z : ◌≡◌ {A = ℕ} 0 1 = cc in absurd (omega a
 
 module _ (sh : Shape) (st : Setting) (t : Tlp) (wf : WellFormed sh) (nest : Nested sh) (few : sh.count ≤ 256) where
   -- a root port that covers the TLP: there is a way down
-  entry_some : (q : ℕ) → q < sh.count → is_root (sh.kind q) ≡ true → covers sh t q ≡ true → entry_for sh t ≡ Nothing → ⊥
+  entry_some : (q : ℕ) → q < sh.count → is_root (sh.kind q) ≡ true → covers sh t q ≡ true → entry_for sh t ≡ None → ⊥
   unfolding entry_for is_entry
   entry_some q l r c none = contradiction (and_both r c) (find_none (is_entry sh t) sh.count 0 none q (omega arith) (omega arith))
 

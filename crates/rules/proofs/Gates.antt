@@ -5,13 +5,12 @@ use mathlib.Core.List.{List, [], ◌∷◌}
 use Prim.Native.Nat.{ℕ, ◌≤◌, ◌<◌}
 use native.Mathlib.Omega.{arith}
 use lib.Dec.{lit≤}
-use Rattle.rules.specs.declared.Found.{Found}
-use Rattle.rules.specs.declared.Found.TheVariants.{At, Nothing}
 use Rattle.rules.specs.Records.{lowest_faulty}
 use Rattle.rules.specs.Tlp.{header_fine}
 use Rattle.rules.specs.Route.{Trip}
 use Rattle.rules.specs.Refuse.{Gate, passes, refuses, unless, unless_found, Result, refused, answered, through, begun, known_version, well_made, in_time}
 use Rattle.rules.specs.Refuse.{is_origin, read_gates, query_gates, fits, verdict, routed, result}
+use Rattle.std.specs.Prelude.{Option, Some, None}
 
 -- a result that no test with a number up to n gave
 abbrev pub Past : {A : Type 0} → ℕ → Result A → Type 0
@@ -29,11 +28,11 @@ unfolding through
 unless_open true m l x y n h = (refl, h)
 unless_open false m l x y n h = let z : m < m = subst (Past m) (sym h) n in absurd (omega arith)
 
-found_open : {A : Type 0} (f : Found) (m : ℕ) (l : List Gate) (x y : Result A) → Past m y → through (unless_found f m ∷ l) x ≡ y
-    → (f ≡ Nothing) × (through l x ≡ y)
+found_open : {A : Type 0} (f : Option ℕ) (m : ℕ) (l : List Gate) (x y : Result A) → Past m y → through (unless_found f m ∷ l) x ≡ y
+    → (f ≡ None) × (through l x ≡ y)
 unfolding through
-found_open Nothing m l x y n h = (refl, h)
-found_open (At i) m l x y n h = let z : m < m = subst (Past m) (sym h) n in absurd (omega arith)
+found_open None m l x y n h = (refl, h)
+found_open (Some i) m l x y n h = let z : m < m = subst (Past m) (sym h) n in absurd (omega arith)
 
 -- where the gates let one answer through, they let each;
 pub through_open : {A : Type 0} (l : List Gate) (x : Result A) → ◌≡◌ {A = Result (Unit {0})} (through l (answered tt)) (answered tt) → through l x ≡ x
@@ -55,7 +54,7 @@ unfolding through
 through_nil x = refl
 
 all_read : (s : List ℕ) (now : ℕ) → begun s ≡ true → known_version s ≡ true → well_made s ≡ true → in_time s now ≡ true
-    → lowest_faulty s ≡ Nothing
+    → lowest_faulty s ≡ None
     → verdict s now ≡ answered tt
 unfolding verdict through
 all_read s now a b c d e = rw (a, b, c, d, e)
@@ -80,7 +79,7 @@ module _ {A : Type 0} (s : List ℕ) (x : Result A) where
       (a, b, sym (through_nil x) ∙ p2)
 
 -- of an accepted snapshot: it is well made, and no record is faulty
-pub verdict_made : (s : List ℕ) (now : ℕ) → verdict s now ≡ answered tt → (well_made s ≡ true) × (lowest_faulty s ≡ Nothing)
+pub verdict_made : (s : List ℕ) (now : ℕ) → verdict s now ≡ answered tt → (well_made s ≡ true) × (lowest_faulty s ≡ None)
 unfolding verdict
 verdict_made s now h =
     let (_, h1) = unless_open (begun s) 1 _ (answered tt) (answered tt) tt h in

@@ -1,5 +1,6 @@
 pub mod Logic
 pub mod Loops
+pub mod Ranges
 pub mod Sound
 pub mod Steps
 pub mod Gates

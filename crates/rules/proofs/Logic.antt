@@ -1,15 +1,14 @@
 -- Tests taken apart and put together: eliminators of `cond`, `among` and the Boolean operators.
-use mathlib.Core.Path.{◌≡◌, refl, sym, ◌∙◌, ap}
+use mathlib.Core.Path.{◌≡◌, refl, sym}
 use mathlib.Core.Bool.{Bool, true, false, cond, ◌&&◌, ◌||◌, not}
 use Prim.Native.Nat.{ℕ}
 use native.Mathlib.Nat.{le_trans}
 use native.Mathlib.Omega.{arith}
 use lib.Dec.{leb}
 use borrow.Author.Tests.{leb-true, le-leb}
-use Rattle.rules.specs.declared.Found.{Found}
-use Rattle.rules.specs.declared.Found.TheVariants.{At, Nothing}
 use Rattle.rules.specs.declared.Handling.TheVariants.{Direct, Redirect, Violation}
 use Rattle.rules.specs.Below.{among}
+use Rattle.std.specs.Prelude.{Option, Some, None}
 
 -- a test cannot both pass and fail
 pub contradiction : {A : Type 0} {b : Bool} → b ≡ true → b ≡ false → A
@@ -19,10 +18,10 @@ pub cond_case : {A : Type 0} (P : A → Type 0) (b : Bool) {x y : A} → (b ≡ 
 cond_case P true f g = f refl
 cond_case P false f g = g refl
 
-pub among_case : {A : Type 0} (P : A → Type 0) (o : Found) {f : ℕ → A} {z : A}
-    → ((i : ℕ) → o ≡ At i → P (f i)) → (o ≡ Nothing → P z) → P (among o f z)
-among_case P (At i) f z = f i refl
-among_case P Nothing f z = z refl
+pub among_case : {A : Type 0} (P : A → Type 0) (o : Option ℕ) {f : ℕ → A} {z : A}
+    → ((i : ℕ) → o ≡ Some i → P (f i)) → (o ≡ None → P z) → P (among o f z)
+among_case P (Some i) f z = f i refl
+among_case P None f z = z refl
 
 pub either : {A : Type 0} (b : Bool) → (b ≡ true → A) → (b ≡ false → A) → A
 either true f g = f refl
@@ -79,13 +78,6 @@ implies {a} h n = either a (λ p. contradiction (h p) n) (λ q. q)
 pub same_test : (a b : Bool) → (a ≡ true → b ≡ true) → (b ≡ true → a ≡ true) → a ≡ b
 same_test true b f g = sym (f refl)
 same_test false b f g = sym (implies g refl)
-
--- an `if` whose else is false is a conjunction
-pub then_and : {x a b r : Bool} → x ≡ a → x ≡ true → r ≡ b → r ≡ (a && b)
-then_and {x} {a} {b} {r} e t h = h ∙ sym (ap (λ (z : Bool). z && b) (sym e ∙ t))
-
-pub else_and : {x a : Bool} (b : Bool) → x ≡ a → x ≡ false → false ≡ (a && b)
-else_and b e f = sym (ap (λ (z : Bool). z && b) (sym e ∙ f))
 
 pub leb_trans : (a b c : ℕ) → leb a b ≡ true → leb b c ≡ true → leb a c ≡ true
 leb_trans a b c p q = le-leb a c (le_trans (leb-true a b p) (leb-true b c q))

@@ -1,15 +1,13 @@
--- The laws of any_below, all_below and find_from. What holds at each turn of a loop that works one of them out is a record
--- (AnySoFar, AllSoFar, Searching), with a law for its start, one for a turn and one for its end.
+-- The laws of any_below, all_below and find_from; what iterators promise of them is said in Ranges.antt.
 use mathlib.Core.Path.{◌≡◌, refl, sym, ◌∙◌, ap, subst}
 use mathlib.Core.Bool.{Bool, true, false, ◌&&◌, ◌||◌}
 use Prim.Native.Nat.{ℕ, zero, suc, ◌+◌, ◌-◌, ◌≤◌, ◌<◌}
-use native.Mathlib.Nat.{le_antisymm, not-suc-le-zero}
+use native.Mathlib.Nat.{not-suc-le-zero}
 use native.Mathlib.Numerals.{add-one}
 use native.Mathlib.Omega.{arith}
-use Rattle.rules.specs.declared.Found.{Found}
-use Rattle.rules.specs.declared.Found.TheVariants.{At, Nothing}
 use Rattle.rules.specs.Below.{all_below, any_below, find_from}
 use Rattle.rules.proofs.Logic.{contradiction, both, either, or_case, or_left, or_right, same_test}
+use Rattle.std.specs.Prelude.{Some, None}
 
 -- any_below
 
@@ -17,25 +15,18 @@ pub any_none : (f : ℕ → Bool) → any_below 0 f ≡ false
 unfolding any_below
 any_none f = refl
 
-pub any_turn : (f : ℕ → Bool) (j : ℕ) {found b : Bool} → found ≡ any_below j f → b ≡ f j → (found || b) ≡ any_below (j + 1) f
-unfolding any_below
-any_turn f j p q = rw (add-one, p, q)
-
-pub any_end : (f : ℕ → Bool) (j n : ℕ) {found : Bool} → found ≡ any_below j f → j ≤ n → n ≤ j → found ≡ any_below n f
-any_end f j n p a b = p ∙ ap (λ (m : ℕ). any_below m f) (le_antisymm a b)
-
 -- where some number passes, one can be named
-pub record Some (n : ℕ) (f : ℕ → Bool) : Type 0 where
+pub record Witness (n : ℕ) (f : ℕ → Bool) : Type 0 where
   pub which : ℕ
   pub below : which < n
   pub passes : f which ≡ true
 
-pub any_some : (n : ℕ) (f : ℕ → Bool) → any_below n f ≡ true → Some n f
+pub any_some : (n : ℕ) (f : ℕ → Bool) → any_below n f ≡ true → Witness n f
 unfolding any_below
 any_some zero f h = contradiction h refl
 any_some (suc n) f h =
     or_case (any_below n f) (f n) h
-    (λ p. let s : Some n f = any_some n f p in record { which = s.which; below = omega arith; passes = s.passes })
+    (λ p. let s : Witness n f = any_some n f p in record { which = s.which; below = omega arith; passes = s.passes })
     (λ q. record { which = n; below = omega arith; passes = q })
 
 pub some_any : (n : ℕ) (f : ℕ → Bool) (j : ℕ) → j < n → f j ≡ true → any_below n f ≡ true
@@ -50,27 +41,6 @@ some_any (suc n) f j l h = or_case_lt (some_any n f j) h
         strict q p =
             let d : j ≡ n → ⊥ = λ (e : j ≡ n). contradiction p (ap f e ∙ q) in omega (arith, d)
 
--- the numbers below j, of n, are tested
-pub record AnySoFar (f : ℕ → Bool) (n j : ℕ) (found : Bool) : Type 0 where
-  pub within : j ≤ n
-  pub so_far : found ≡ any_below j f
-
-pub any_starts : {f : ℕ → Bool} {n : ℕ} → AnySoFar f n 0 false
-any_starts {f} = record { within = omega arith; so_far = sym (any_none f) }
-
-pub any_goes_on : {f : ℕ → Bool} {n j : ℕ} {found b : Bool} → AnySoFar f n j found → j < n → b ≡ f j → AnySoFar f n (j + 1) (found || b)
-any_goes_on {f} {n} {j} a l e = record { within = omega arith; so_far = any_turn f j a.so_far e }
-
-pub any_done : {f : ℕ → Bool} {n j : ℕ} {found : Bool} → AnySoFar f n j found → n ≤ j → found ≡ any_below n f
-any_done {f} {n} {j} a l = any_end f j n a.so_far a.within l
-
--- .. where a loop leaves at the first that passes
-pub any_leaves : {f : ℕ → Bool} {n j : ℕ} {b : Bool} → AnySoFar f n j false → j < n → b ≡ f j → b ≡ true → true ≡ any_below n f
-any_leaves {f} {n} {j} a l e on = sym (some_any n f j l (sym e ∙ on))
-
-pub any_passes_by : {f : ℕ → Bool} {n j : ℕ} {b : Bool} → AnySoFar f n j false → j < n → b ≡ f j → b ≡ false → AnySoFar f n (j + 1) false
-any_passes_by {f} {n} {j} a l e off = record { within = omega arith; so_far = any_turn f j a.so_far (sym off ∙ e) }
-
 pub any_false : (n : ℕ) (f : ℕ → Bool) → any_below n f ≡ false → (j : ℕ) → j < n → f j ≡ false
 any_false n f h j l = either (f j) (λ p. contradiction (some_any n f j l p) h) (λ q. q)
 
@@ -78,12 +48,12 @@ any_false n f h j l = either (f j) (λ p. contradiction (some_any n f j l p) h) 
 pub any_cut : (f : ℕ → Bool) (m n : ℕ) → m ≤ n → ((j : ℕ) → m ≤ j → j < n → f j ≡ false) → any_below n f ≡ any_below m f
 any_cut f m n l h = same_test (any_below n f) (any_below m f) (λ p. low (any_some n f p)) (λ p. all (any_some m f p))
   where
-    low : Some n f → any_below m f ≡ true
+    low : Witness n f → any_below m f ≡ true
     low w =
         let d : m ≤ w.which → ⊥ = λ (a : m ≤ w.which). contradiction w.passes (h w.which a w.below) in
         some_any m f w.which (omega (arith, d)) w.passes
 
-    all : Some m f → any_below n f ≡ true
+    all : Witness m f → any_below n f ≡ true
     all w = some_any n f w.which (omega arith) w.passes
 
 pub any_miss : (f : ℕ → Bool) (n : ℕ) → ((j : ℕ) → j < n → f j ≡ false) → any_below n f ≡ false
@@ -105,23 +75,6 @@ pub all_turn : (f : ℕ → Bool) (j : ℕ) {ok b : Bool} → ok ≡ all_below j
 unfolding all_below
 all_turn f j p q = rw (add-one, p, q)
 
-pub all_end : (f : ℕ → Bool) (j n : ℕ) {ok : Bool} → ok ≡ all_below j f → j ≤ n → n ≤ j → ok ≡ all_below n f
-all_end f j n p a b = p ∙ ap (λ (m : ℕ). all_below m f) (le_antisymm a b)
-
--- the numbers below j, of n, are tested
-pub record AllSoFar (f : ℕ → Bool) (n j : ℕ) (ok : Bool) : Type 0 where
-  pub within : j ≤ n
-  pub so_far : ok ≡ all_below j f
-
-pub all_starts : {f : ℕ → Bool} {n : ℕ} → AllSoFar f n 0 true
-all_starts {f} = record { within = omega arith; so_far = sym (all_none f) }
-
-pub all_goes_on : {f : ℕ → Bool} {n j : ℕ} {ok b : Bool} → AllSoFar f n j ok → j < n → b ≡ f j → AllSoFar f n (j + 1) (ok && b)
-all_goes_on {f} {n} {j} a l e = record { within = omega arith; so_far = all_turn f j a.so_far e }
-
-pub all_done : {f : ℕ → Bool} {n j : ℕ} {ok : Bool} → AllSoFar f n j ok → n ≤ j → ok ≡ all_below n f
-all_done {f} {n} {j} a l = all_end f j n a.so_far a.within l
-
 pub all_at : (n : ℕ) (f : ℕ → Bool) → all_below n f ≡ true → (j : ℕ) → j < n → f j ≡ true
 unfolding all_below
 all_at zero f h j l = absurd (not-suc-le-zero l)
@@ -135,13 +88,6 @@ all_at (suc n) f h j l = at_or_below (all_at n f (both (all_below n f) (f n) h).
 
 -- find_from: k numbers from i on, as what is left of n
 
-pub find_hit : (f : ℕ → Bool) (n i : ℕ) → i < n → f i ≡ true → find_from f (n - i) i ≡ At i
-unfolding find_from
-find_hit f n i l h = let e : suc (n - (i + 1)) ≡ n - i = omega arith in subst (λ (k : ℕ). find_from f k i ≡ At i) e step
-  where
-    step : find_from f (suc (n - (i + 1))) i ≡ At i
-    step = rw h
-
 pub find_miss : (f : ℕ → Bool) (n i : ℕ) → i < n → f i ≡ false → find_from f (n - i) i ≡ find_from f (n - (i + 1)) (i + 1)
 unfolding find_from
 find_miss f n i l h =
@@ -151,51 +97,33 @@ find_miss f n i l h =
     step : find_from f (suc (n - (i + 1))) i ≡ find_from f (n - (i + 1)) (i + 1)
     step = rw (h, add-one)
 
-pub find_end : (f : ℕ → Bool) (n i : ℕ) → n ≤ i → find_from f (n - i) i ≡ Nothing
-unfolding find_from
-find_end f n i l = let e : 0 ≡ n - i = omega arith in subst (λ (k : ℕ). find_from f k i ≡ Nothing) e refl
-
--- what is left of a search, from i on, gives the whole
-pub record Searching (f : ℕ → Bool) (n i : ℕ) (whole : Found) : Type 0 where
-  pub left : find_from f (n - i) i ≡ whole
-
-pub search_hits : {f : ℕ → Bool} {n i : ℕ} {whole : Found} {b : Bool} → Searching f n i whole → i < n → b ≡ f i → b ≡ true → At i ≡ whole
-search_hits {f} {n} {i} a l e on = sym (find_hit f n i l (sym e ∙ on)) ∙ a.left
-
-pub search_goes_on : {f : ℕ → Bool} {n i : ℕ} {whole : Found} {b : Bool} → Searching f n i whole → i < n → b ≡ f i → b ≡ false
-    → Searching f n (i + 1) whole
-search_goes_on {f} {n} {i} a l e off = record { left = sym (find_miss f n i l (sym e ∙ off)) ∙ a.left }
-
-pub search_ends : {f : ℕ → Bool} {n i : ℕ} {whole : Found} → Searching f n i whole → n ≤ i → Nothing ≡ whole
-search_ends {f} {n} {i} a l = sym (find_end f n i l) ∙ a.left
-
 -- what is found is in range and passes
 pub record Hit (f : ℕ → Bool) (k i j : ℕ) : Type 0 where
   pub from : i ≤ j
   pub below : j < i + k
   pub passes : f j ≡ true
 
-pub find_in : (f : ℕ → Bool) (k i j : ℕ) → find_from f k i ≡ At j → Hit f k i j
+pub find_in : (f : ℕ → Bool) (k i j : ℕ) → find_from f k i ≡ Some j → Hit f k i j
 unfolding find_from
 find_in f zero i j h = let z : ◌≡◌ {A = ℕ} 0 1 = cc in absurd (omega arith)
 find_in f (suc k) i j h =
     either (f i)
     (λ p.
-    let e : At i ≡ At j = sym (rw p) ∙ h in
+    let e : Some i ≡ Some j = sym (rw p) ∙ h in
     let same : i ≡ j = cc in record { from = omega arith; below = omega arith; passes = subst (λ (m : ℕ). f m ≡ true) same p })
     (λ q.
-    let e : find_from f k (suc i) ≡ At j = sym (rw q) ∙ h in
+    let e : find_from f k (suc i) ≡ Some j = sym (rw q) ∙ h in
     let r : Hit f k (suc i) j = find_in f k (suc i) j e in
     record { from = omega arith; below = omega arith; passes = r.passes })
 
 -- where nothing is found nothing passes
-pub find_none : (f : ℕ → Bool) (k i : ℕ) → find_from f k i ≡ Nothing → (j : ℕ) → i ≤ j → j < i + k → f j ≡ false
+pub find_none : (f : ℕ → Bool) (k i : ℕ) → find_from f k i ≡ None → (j : ℕ) → i ≤ j → j < i + k → f j ≡ false
 unfolding find_from
 find_none f zero i h j a b = absurd (omega arith)
 find_none f (suc k) i h j a b = go (f i) refl (find_none f k (suc i))
   where
-    go : (b : Bool) → f i ≡ b → (find_from f k (suc i) ≡ Nothing → (j : ℕ) → suc i ≤ j → j < suc i + k → f j ≡ false) → f j ≡ false
-    go true p ih = let e : At i ≡ Nothing = sym (rw p) ∙ h in let z : ◌≡◌ {A = ℕ} 0 1 = cc in absurd (omega arith)
+    go : (b : Bool) → f i ≡ b → (find_from f k (suc i) ≡ None → (j : ℕ) → suc i ≤ j → j < suc i + k → f j ≡ false) → f j ≡ false
+    go true p ih = let e : Some i ≡ None = sym (rw p) ∙ h in let z : ◌≡◌ {A = ℕ} 0 1 = cc in absurd (omega arith)
     go false q ih =
         either (f j) (λ p. ih (sym (rw q) ∙ h) j (strict p) (omega arith)) (λ r. r)
       where

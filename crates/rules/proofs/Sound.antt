@@ -7,7 +7,6 @@ use native.Mathlib.Omega.{arith}
 use lib.Dec.{leb, ltb}
 use lib.ListN.{get_or}
 use borrow.Author.Tests.{ltb-true, leb-true, le-leb, eqb-true, eqb-false, ne_eqb}
-use Rattle.rules.specs.declared.Found.TheVariants.{Nothing}
 use Rattle.rules.specs.Below.{all_of, any_below}
 use Rattle.rules.specs.Bytes.{within}
 use Rattle.rules.specs.Snapshot.{count, kind, parent, own_bus, secondary, subordinate, first, last, is_open, is_root, is_upstream, is_downstream}
@@ -17,10 +16,11 @@ use Rattle.rules.specs.Records.{lowest_faulty}
 use Rattle.rules.specs.Fabric.{in_range, holds, shape_of}
 use Rattle.rules.specs.Properties.{WellFormed, Nested}
 use Rattle.rules.proofs.Logic.{contradiction, leb_trans, both, and_both, or_case, not_true, not_false, or_false}
-use Rattle.rules.proofs.Loops.{Some, any_some, some_any, all_at, find_none}
+use Rattle.rules.proofs.Loops.{Witness, any_some, some_any, all_at, find_none}
+use Rattle.std.specs.Prelude.{None}
 
 -- no faulty record: every record is fine
-pub all_fine : (s : List ℕ) → lowest_faulty s ≡ Nothing → (i : ℕ) → i < count s → fine s i ≡ true
+pub all_fine : (s : List ℕ) → lowest_faulty s ≡ None → (i : ℕ) → i < count s → fine s i ≡ true
 unfolding lowest_faulty faulty
 all_fine s h i l = not_false (find_none (faulty s) (count s) 0 h i (omega arith) (omega arith))
 
@@ -112,7 +112,7 @@ module _ (s : List ℕ) (i : ℕ) (ok : Keeps s i) where
   buses_inside r n = leb-true _ _ (rw r at (bus_order n).2)
 
   -- an open range of i lies inside an open window of its parent
-  nested : is_root (kind s i) ≡ false → (k : ℕ) → k < 6 → is_open s i k ≡ true → Some 2 (inside s i k (parent s i))
+  nested : is_root (kind s i) ≡ false → (k : ℕ) → k < 6 → is_open s i k ≡ true → Witness 2 (inside s i k (parent s i))
   unfolding nested_fine
   nested r k l o =
       or_case (not (is_open s i k)) (any_below 2 (inside s i k (parent s i)))
@@ -142,14 +142,14 @@ holds_nest : (s : List ℕ) (i : ℕ) → Keeps s i → is_root (kind s i) ≡ f
     → (a : ℕ) → holds s i a ≡ true → holds s (parent s i) a ≡ true
 unfolding holds
 holds_nest s i ok r a h =
-    let x : Some 6 (in_range s i a) = any_some 6 (in_range s i a) h in
-    let y : Some 2 (inside s i x.which (parent s i)) = nested s i ok r x.which x.below (in_parts s i a x.which x.passes).0 in
+    let x : Witness 6 (in_range s i a) = any_some 6 (in_range s i a) h in
+    let y : Witness 2 (inside s i x.which (parent s i)) = nested s i ok r x.which x.below (in_parts s i a x.which x.passes).0 in
     some_any 6 (in_range s (parent s i) a) y.which (omega arith)
     (inside_in s i x.which (parent s i) y.which a y.passes x.passes)
 
 -- what the rules of an accepted snapshot's records give
 
-module _ (s : List ℕ) (clean : lowest_faulty s ≡ Nothing) where
+module _ (s : List ℕ) (clean : lowest_faulty s ≡ None) where
   pub all_keep : (i : ℕ) → i < count s → Keeps s i
   all_keep i l = keeps s i (all_fine s clean i l)
 

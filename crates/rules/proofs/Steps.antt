@@ -5,7 +5,6 @@ use Prim.Native.Nat.{ℕ, zero, suc, ◌+◌, ◌-◌, ◌≤◌, ◌<◌}
 use native.Mathlib.Omega.{arith}
 use lib.Dec.{eqb}
 use borrow.Author.Tests.{eqb-true}
-use Rattle.rules.specs.declared.Found.TheVariants.{At, Nothing}
 use Rattle.rules.specs.declared.Handling.{Handling}
 use Rattle.rules.specs.declared.Handling.TheVariants.{Direct, Redirect, Violation}
 use Rattle.rules.specs.declared.Letter.TheVariants.{Source, Translation, Egress, Validation}
@@ -19,25 +18,28 @@ use Rattle.rules.specs.Below.{find_from}
 use Rattle.rules.specs.Snapshot.{is_root, is_upstream, is_endpoint, is_port, complex}
 use Rattle.rules.specs.Fabric.{Shape, Setting}
 use Rattle.rules.specs.Cover.{covers, is_peer, peer_of, is_entry, entry_for, is_child, child_for, is_way_on, way_on}
-use Rattle.rules.specs.Decide.{as_addressed, redirected_up, up_by_u, direct_to_peer, violation, blocks, at_the_top, sent_up, bad_source, bad_translation}
+use Rattle.rules.specs.Decide.{action_number, violation, blocks, at_the_top, sent_up, bad_source, bad_translation}
 use Rattle.rules.specs.Decide.{own_range, peer_handling, direct, handled, to_peer, past_parent, onward, decide}
+use Rattle.rules.specs.declared.Action.{Action}
+use Rattle.rules.specs.declared.Action.TheVariants.{AsAddressed, DirectToPeer, RedirectedUp, UpByU}
 use Rattle.rules.specs.Route.{Trip, Way, lands_at, through_child, next_down, hop_down, down_from, down, above, hop_up, up_from, up}
 use Rattle.rules.specs.Properties.{WellFormed}
 use Rattle.rules.proofs.Logic.{cond_case, among_case, both}
 use Rattle.rules.proofs.Loops.{Hit, find_in}
 use Rattle.rules.proofs.Sound.{downstream_port}
+use Rattle.std.specs.Prelude.{Some, None}
 
 -- what a search from above p finds
 pub found_after : (sh : Shape) (p : ℕ) (f : ℕ → Bool) (q : ℕ) → p < sh.count
-    → find_from f (sh.count - (p + 1)) (p + 1) ≡ At q → (p < q) × (q < sh.count) × (f q ≡ true)
+    → find_from f (sh.count - (p + 1)) (p + 1) ≡ Some q → (p < q) × (q < sh.count) × (f q ≡ true)
 found_after sh p f q l h =
     let x : Hit f (sh.count - (p + 1)) (p + 1) q = find_in f (sh.count - (p + 1)) (p + 1) q h in
     (omega arith, omega arith, x.passes)
 
-pub found_in : (sh : Shape) (f : ℕ → Bool) (q : ℕ) → find_from f sh.count 0 ≡ At q → (q < sh.count) × (f q ≡ true)
+pub found_in : (sh : Shape) (f : ℕ → Bool) (q : ℕ) → find_from f sh.count 0 ≡ Some q → (q < sh.count) × (f q ≡ true)
 found_in sh f q h = let x : Hit f sh.count 0 q = find_in f sh.count 0 q h in (omega arith, x.passes)
 
-pub entry_in : (sh : Shape) (t : Tlp) (q : ℕ) → entry_for sh t ≡ At q → q < sh.count
+pub entry_in : (sh : Shape) (t : Tlp) (q : ℕ) → entry_for sh t ≡ Some q → q < sh.count
 unfolding entry_for
 entry_in sh t q h = (found_in sh (is_entry sh t) q h).0
 
@@ -145,7 +147,7 @@ pub record Claims (sh : Shape) (t : Tlp) (p q : ℕ) : Type 0 where
   pub sibling : sh.parent q ≡ sh.parent p
   pub covering : covers sh t q ≡ true
 
-pub peer_claims : (sh : Shape) (t : Tlp) (p q : ℕ) → peer_of sh t p ≡ At q → Claims sh t p q
+pub peer_claims : (sh : Shape) (t : Tlp) (p q : ℕ) → peer_of sh t p ≡ Some q → Claims sh t p q
 unfolding peer_of
 peer_claims sh t p q h =
     let (l, x) = found_in sh (is_peer sh t p) q h in
@@ -162,26 +164,27 @@ pub record DecideCases (sh : Shape) (st : Setting) (t : Tlp) (p : ℕ) (Q : Move
   pub by_v : bad_source sh st t p ≡ true → Q (violation Source t p)
   pub by_b : bad_source sh st t p ≡ false → bad_translation st t p ≡ true → Q (violation Translation t p)
   pub undefined : Passed sh st t p → covers sh t p ≡ true → st.u p ≡ false → Q (Stop (Undefined p))
-  pub sent_up : Passed sh st t p → (a : ℕ) → eqb a as_addressed ≡ false → (q : ℕ) → Claims sh t p q → is_root (sh.kind p) ≡ false → Q (Up a)
+  pub sent_up : Passed sh st t p → (a : Action) → eqb (action_number a) (action_number AsAddressed) ≡ false → (q : ℕ) → Claims sh t p q
+      → is_root (sh.kind p) ≡ false → Q (Up a)
   pub blocked : Passed sh st t p → (q : ℕ) → Claims sh t p q → is_root (sh.kind p) ≡ true → blocks sh t ≡ true → Q (violation Validation t p)
   pub reflects : Passed sh st t p → (q : ℕ) → Claims sh t p q → is_root (sh.kind p) ≡ true → blocks sh t ≡ false → Q Reflect
-  pub by_e : Passed sh st t p → covers sh t p ≡ false → (q : ℕ) → peer_of sh t p ≡ At q
+  pub by_e : Passed sh st t p → covers sh t p ≡ false → (q : ℕ) → peer_of sh t p ≡ Some q
       → peer_handling sh st t p q ≡ Violation → Q (violation Egress t p)
-  pub apart : Passed sh st t p → covers sh t p ≡ false → (q : ℕ) → peer_of sh t p ≡ At q
+  pub apart : Passed sh st t p → covers sh t p ≡ false → (q : ℕ) → peer_of sh t p ≡ Some q
       → peer_handling sh st t p q ≡ Direct → is_root (sh.kind p) && not sh.roots_reach ≡ true
-      → Q (Beyond (Unclaimed complex) complex direct_to_peer)
-  pub across : Passed sh st t p → covers sh t p ≡ false → (q : ℕ) → peer_of sh t p ≡ At q
+      → Q (Beyond (Unclaimed complex) complex DirectToPeer)
+  pub across : Passed sh st t p → covers sh t p ≡ false → (q : ℕ) → peer_of sh t p ≡ Some q
       → peer_handling sh st t p q ≡ Direct → is_root (sh.kind p) && not sh.roots_reach ≡ false
       → Q (Across q)
-  pub to_host : Passed sh st t p → covers sh t p ≡ false → peer_of sh t p ≡ Nothing → is_root (sh.kind p) ≡ true
-      → Q (Beyond Host complex as_addressed)
-  pub at_parent : Passed sh st t p → covers sh t p ≡ false → peer_of sh t p ≡ Nothing → is_root (sh.kind p) ≡ false
-      → covers sh t (sh.parent p) ≡ true → Q (Beyond (Unclaimed (sh.parent p)) (sh.parent p) as_addressed)
-  pub addressed : Passed sh st t p → covers sh t p ≡ false → peer_of sh t p ≡ Nothing → is_root (sh.kind p) ≡ false
-      → covers sh t (sh.parent p) ≡ false → Q (Up as_addressed)
+  pub to_host : Passed sh st t p → covers sh t p ≡ false → peer_of sh t p ≡ None → is_root (sh.kind p) ≡ true
+      → Q (Beyond Host complex AsAddressed)
+  pub at_parent : Passed sh st t p → covers sh t p ≡ false → peer_of sh t p ≡ None → is_root (sh.kind p) ≡ false
+      → covers sh t (sh.parent p) ≡ true → Q (Beyond (Unclaimed (sh.parent p)) (sh.parent p) AsAddressed)
+  pub addressed : Passed sh st t p → covers sh t p ≡ false → peer_of sh t p ≡ None → is_root (sh.kind p) ≡ false
+      → covers sh t (sh.parent p) ≡ false → Q (Up AsAddressed)
 
 handled_case : (Q : Move → Type 0) (sh : Shape) (t : Tlp) (p q : ℕ) (h : Handling)
-    → (h ≡ Direct → Q (direct sh p q)) → (h ≡ Redirect → Q (sent_up sh t p redirected_up)) → (h ≡ Violation → Q (violation Egress t p))
+    → (h ≡ Direct → Q (direct sh p q)) → (h ≡ Redirect → Q (sent_up sh t p RedirectedUp)) → (h ≡ Violation → Q (violation Egress t p))
     → Q (handled sh t p q h)
 unfolding handled
 handled_case Q sh t p q Direct a b c = a refl
@@ -189,8 +192,8 @@ handled_case Q sh t p q Redirect a b c = b refl
 handled_case Q sh t p q Violation a b c = c refl
 
 module _ (sh : Shape) (st : Setting) (t : Tlp) (p : ℕ) (here : p < sh.count) (port : is_port (sh.kind p) ≡ true) where
-  sent_case : (Q : Move → Type 0) → DecideCases sh st t p Q → Passed sh st t p → (q : ℕ) → Claims sh t p q → (a : ℕ)
-      → eqb a as_addressed ≡ false
+  sent_case : (Q : Move → Type 0) → DecideCases sh st t p Q → Passed sh st t p → (q : ℕ) → Claims sh t p q → (a : Action)
+      → eqb (action_number a) (action_number AsAddressed) ≡ false
       → Q (sent_up sh t p a)
   unfolding sent_up at_the_top
   sent_case Q c ok q x a n =
@@ -204,13 +207,13 @@ module _ (sh : Shape) (st : Setting) (t : Tlp) (p : ℕ) (here : p < sh.count) (
       let ok : Passed sh st t p = record { source = nv; translation = nb } in
       cond_case Q (covers sh t p)
       (λ own. cond_case Q (st.u p)
-      (λ _. sent_case Q c ok p (record { present = here; port = port; sibling = refl; covering = own }) up_by_u refl)
+      (λ _. sent_case Q c ok p (record { present = here; port = port; sibling = refl; covering = own }) UpByU refl)
       (c.undefined ok own))
       λ other.
       among_case Q (peer_of sh t p)
       (λ q e. handled_case Q sh t p q (peer_handling sh st t p q)
       (λ h. cond_case Q (is_root (sh.kind p) && not sh.roots_reach) (c.apart ok other q e h) (c.across ok other q e h))
-      (λ _. sent_case Q c ok q (peer_claims sh t p q e) redirected_up refl)
+      (λ _. sent_case Q c ok q (peer_claims sh t p q e) RedirectedUp refl)
       (c.by_e ok other q e))
       λ none.
       cond_case Q (is_root (sh.kind p)) (c.to_host ok other none) λ nr.

@@ -4,7 +4,6 @@ use mathlib.Core.Bool.{Bool, true, false, cond, ◌&&◌, not}
 use mathlib.Core.List.{List}
 use Prim.Native.Nat.{ℕ, ◌≤◌, ◌<◌}
 use lib.Dec.{eqb, ltb}
-use Rattle.rules.specs.declared.Found.TheVariants.{At, Nothing}
 use Rattle.rules.specs.declared.Handling.{Handling}
 use Rattle.rules.specs.declared.Handling.TheVariants.{Direct}
 use Rattle.rules.specs.declared.Move.{Move}
@@ -14,7 +13,8 @@ use Rattle.rules.specs.Bytes.{within}
 use Rattle.rules.specs.Snapshot.{port_number, capability, vector_size, stored_bit, vector_bit, is_root, is_port}
 use Rattle.rules.specs.Fabric.{shape_of, setting_of}
 use Rattle.rules.specs.Cover.{covers, peer_of}
-use Rattle.rules.specs.Decide.{as_addressed, bad_source, bad_translation, handling, peer_handling, direct, handled, to_peer, onward, past_parent, decide}
+use Rattle.rules.specs.Decide.{action_number, bad_source, bad_translation, handling, peer_handling, direct, handled, to_peer, onward, past_parent, decide}
+use Rattle.rules.specs.declared.Action.TheVariants.{AsAddressed}
 use Rattle.rules.specs.Route.{above, before, hop, hop_up, up}
 use Rattle.rules.specs.Properties.{WellFormed, Nested, AreBytes, IsPort}
 use Rattle.rules.specs.Tight.{Alike, TightAt, AtLeastAsTight}
@@ -22,6 +22,7 @@ use Rattle.rules.proofs.Logic.{contradiction, redirect_no_direct, violation_no_d
 use Rattle.rules.proofs.Steps.{Claims, Passed, decide_case, Ascends, ascends, up_step, up_induction}
 use Rattle.rules.proofs.Covered.{unvalidated, checked_validated, claimed_above, covered_answerable, answerable_validated}
 use Rattle.rules.proofs.Alike.{same_capability}
+use Rattle.std.specs.Prelude.{Some, None}
 
 -- R on gives direct only with E on and the bit clear
 direct_bit : (e b : Bool) → handling e true b ≡ Direct → (e ≡ true) × (b ≡ false)
@@ -91,16 +92,16 @@ module _ (old new : List ℕ) (bytes : AreBytes new) (alike : Alike old new) (ti
       (vector_bit new p (port_number new q)) at_p.r (vector_tight q) at_p.e_on at_p.e_off)
       (rw req at h))
 
-  old_across : Passed (shape_of new) (setting_of new) t p → covers (shape_of new) t p ≡ false → (q : ℕ) → peer_of (shape_of new) t p ≡ At q
+  old_across : Passed (shape_of new) (setting_of new) t p → covers (shape_of new) t p ≡ false → (q : ℕ) → peer_of (shape_of new) t p ≡ Some q
       → peer_handling (shape_of new) (setting_of new) t p q ≡ Direct → is_root ((shape_of new).kind p) && not (shape_of new).roots_reach ≡ false
       → decide (shape_of new) (setting_of old) t p ≡ Across q
   unfolding decide to_peer handled direct
   old_across ok n q e d r =
       rw (source_tight ok.source, translation_tight ok.translation, n, e, direct_tight q d, r)
 
-  old_addressed : Passed (shape_of new) (setting_of new) t p → covers (shape_of new) t p ≡ false → peer_of (shape_of new) t p ≡ Nothing
+  old_addressed : Passed (shape_of new) (setting_of new) t p → covers (shape_of new) t p ≡ false → peer_of (shape_of new) t p ≡ None
       → is_root ((shape_of new).kind p) ≡ false → covers (shape_of new) t ((shape_of new).parent p) ≡ false
-      → decide (shape_of new) (setting_of old) t p ≡ Up as_addressed
+      → decide (shape_of new) (setting_of old) t p ≡ Up AsAddressed
   unfolding decide onward past_parent
   old_addressed ok n e r c =
       rw (source_tight ok.source, translation_tight ok.translation, n, e, r, c)
@@ -144,5 +145,6 @@ module _ (old new : List ℕ) (bytes : AreBytes new) (alike : Alike old new) (ti
         to_host = λ _ _ _ _ z. contradiction z refl;
         at_parent = λ _ _ _ _ _ z. contradiction z refl;
         addressed = λ ok n e r c z.
-            old_step p (Up as_addressed) l k (old_addressed old new bytes alike tight t req p (l, k) ok n e r c) ∙ ap (before (hop p as_addressed)) (rec r z);
+            old_step p (Up AsAddressed) l k (old_addressed old new bytes alike tight t req p (l, k) ok n e r c)
+            ∙ ap (before (hop p (action_number AsAddressed))) (rec r z);
       })

@@ -6,7 +6,6 @@ use Prim.Native.Nat.{ℕ, ◌≤◌, ◌<◌}
 use native.Mathlib.Omega.{arith}
 use lib.Dec.{leb}
 use borrow.Author.Tests.{eqb-true, eqb-false, eq-eqb}
-use Rattle.rules.specs.declared.Found.TheVariants.{Nothing}
 use Rattle.rules.specs.declared.Target.{Target}
 use Rattle.rules.specs.declared.Target.TheVariants.{Address, Id}
 use Rattle.rules.specs.declared.Tlp.{Tlp}
@@ -19,10 +18,11 @@ use Rattle.rules.specs.Fabric.{in_range, holds, shape_of}
 use Rattle.rules.specs.Cover.{covers_target, covers, is_child}
 use Rattle.rules.specs.Properties.{WellFormed, OneWay}
 use Rattle.rules.proofs.Logic.{contradiction, both, and_both, either, not_true, or_case, or_false, or_right, leb_trans}
-use Rattle.rules.proofs.Loops.{Some, any_some, some_any, any_false}
+use Rattle.rules.proofs.Loops.{Witness, any_some, some_any, any_false}
 use Rattle.rules.proofs.Covered.{parent_present, under_no_port}
 use Rattle.rules.proofs.Steps.{peer_parts, entry_parts, way_parts}
 use Rattle.rules.proofs.Sound.{in_parts, port_no_endpoint, all_keep, kind_range, bridge}
+use Rattle.std.specs.Prelude.{None}
 
 -- no earlier sibling passes a test
 no_sibling_lem : (s : List ℕ) (i j : ℕ) (f : ℕ → Bool) → no_sibling s i f ≡ true → j < i → parent s i ≡ parent s j → f j ≡ false
@@ -55,8 +55,8 @@ overlap_at s i k j m a x y =
 ranges_at : (s : List ℕ) (i j a : ℕ) → holds s i a ≡ true → holds s j a ≡ true → ranges_meet s i j ≡ true
 unfolding holds ranges_meet
 ranges_at s i j a x y =
-    let k : Some 6 (in_range s i a) = any_some 6 (in_range s i a) x in
-    let m : Some 6 (in_range s j a) = any_some 6 (in_range s j a) y in
+    let k : Witness 6 (in_range s i a) = any_some 6 (in_range s i a) x in
+    let m : Witness 6 (in_range s j a) = any_some 6 (in_range s j a) y in
     some_any 6 (λ k. any_below 6 (overlap s i k j)) k.which k.below
     (some_any 6 (overlap s i k.which j) m.which m.below (overlap_at s i k.which j m.which a k.passes m.passes))
 
@@ -69,7 +69,7 @@ buses_at s i j b bi bj x y =
     let (y1, y2) = both (leb (secondary s j) b) (leb b (subordinate s j)) y in
     and_both (and_both (and_both bi bj) (leb_trans (secondary s i) b (subordinate s j) x1 y2)) (leb_trans (secondary s j) b (subordinate s i) y1 x2)
 
-module _ (s : List ℕ) (clean : lowest_faulty s ≡ Nothing) (wf : WellFormed (shape_of s)) (few : count s ≤ 256) where
+module _ (s : List ℕ) (clean : lowest_faulty s ≡ None) (wf : WellFormed (shape_of s)) (few : count s ≤ 256) where
   -- a record that may have siblings is a port
   not_alone : (i : ℕ) → i < count s → under_port (kind s i) ≡ false → is_port (kind s i) ≡ true
   not_alone i l a =

@@ -1,7 +1,6 @@
 -- Tests over the numbers below a bound, and the first number that passes one: what the loops over records, ranges and bits work out.
 use Rattle.std.specs.Prelude.{Bool, true, false, cond, ◌&&◌, ◌||◌, List, [], ◌∷◌, ℕ, zero, suc}
-use Rattle.rules.specs.declared.Found.{Found}
-use Rattle.rules.specs.declared.Found.TheVariants.{At, Nothing}
+use Rattle.std.specs.Prelude.{Option, Some, None}
 
 -- every test of a written list passes
 abbrev pub all_of : List Bool → Bool
@@ -19,11 +18,11 @@ any_below zero f = false
 any_below (suc n) f = any_below n f || f n
 
 -- the first of the k numbers from i on at which f passes
-unfoldable pub find_from : (ℕ → Bool) → ℕ → ℕ → Found
-find_from f zero i = Nothing
-find_from f (suc k) i = cond (f i) (At i) (find_from f k (suc i))
+unfoldable pub find_from : (ℕ → Bool) → ℕ → ℕ → Option ℕ
+find_from f zero i = None
+find_from f (suc k) i = cond (f i) (Some i) (find_from f k (suc i))
 
 -- goes on with what was found, or else
-abbrev pub among : {A : Type 0} → Found → (ℕ → A) → A → A
-among (At i) f z = f i
-among Nothing f z = z
+abbrev pub among : {A : Type 0} → Option ℕ → (ℕ → A) → A → A
+among (Some i) f z = f i
+among None f z = z

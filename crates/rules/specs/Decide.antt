@@ -2,6 +2,8 @@
 use Rattle.std.specs.Prelude.{Bool, true, false, cond, ◌&&◌, not, ℕ, eqb}
 use Rattle.rules.specs.declared.Handling.{Handling}
 use Rattle.rules.specs.declared.Handling.TheVariants.{Direct, Redirect, Violation}
+use Rattle.rules.specs.declared.Action.{Action}
+use Rattle.rules.specs.declared.Action.TheVariants.{AsAddressed, RedirectedUp, UpByU, DirectToPeer, Reflected, Downward, EndsHere}
 use Rattle.rules.specs.declared.Letter.{Letter}
 use Rattle.rules.specs.declared.Letter.TheVariants.{Source, Translation, Egress, Validation}
 use Rattle.rules.specs.declared.Outcome.TheVariants.{Host, Unclaimed, Undefined, Violated}
@@ -15,26 +17,14 @@ use Rattle.rules.specs.Fabric.{Shape, Setting}
 use Rattle.rules.specs.Cover.{covers, peer_of}
 
 -- hop actions: 1 up as addressed; 2 redirected up; 3 up by U; 4 direct to a peer; 5 reflected; 6 down; 7 ends here
-abbrev pub as_addressed : ℕ
-as_addressed = 1
-
-abbrev pub redirected_up : ℕ
-redirected_up = 2
-
-abbrev pub up_by_u : ℕ
-up_by_u = 3
-
-abbrev pub direct_to_peer : ℕ
-direct_to_peer = 4
-
-abbrev pub reflected : ℕ
-reflected = 5
-
-abbrev pub downward : ℕ
-downward = 6
-
-abbrev pub ends_here : ℕ
-ends_here = 7
+abbrev pub action_number : Action → ℕ
+action_number AsAddressed = 1
+action_number RedirectedUp = 2
+action_number UpByU = 3
+action_number DirectToPeer = 4
+action_number Reflected = 5
+action_number Downward = 6
+action_number EndsHere = 7
 
 -- A violation says "completer abort" for reads, "drop" for writes.
 abbrev pub violation : Letter → Tlp → ℕ → Move
@@ -48,7 +38,7 @@ unfoldable pub at_the_top : Shape → Tlp → ℕ → Move
 at_the_top sh t p = cond (blocks sh t) (violation Validation t p) Reflect
 
 -- Up, by redirect or by U: kind 3 sends it up; a root port gives a request to validation and reflects a completion.
-unfoldable pub sent_up : Shape → Tlp → ℕ → ℕ → Move
+unfoldable pub sent_up : Shape → Tlp → ℕ → Action → Move
 sent_up sh t p action = cond (is_root (sh.kind p)) (at_the_top sh t p) (Up action)
 
 -- 1. Request, V on, requester bus outside secondary..subordinate: violation V.
@@ -61,7 +51,7 @@ bad_translation st t p = t.request && st.b p && not (eqb t.address_type 0)
 
 -- 3. p itself covers it. U on: it goes up. U off: undefined.
 unfoldable pub own_range : Shape → Setting → Tlp → ℕ → Move
-own_range sh st t p = cond (st.u p) (sent_up sh t p up_by_u) (Stop (Undefined p))
+own_range sh st t p = cond (st.u p) (sent_up sh t p UpByU) (Stop (Undefined p))
 
 -- 4. by E, R and the vector bit
 abbrev pub handling : Bool → Bool → Bool → Handling
@@ -89,11 +79,11 @@ peer_handling sh st t p q =
 
 -- Direct between root ports with flag bit 0 clear: unclaimed at FFFFh (ours).
 unfoldable pub direct : Shape → ℕ → ℕ → Move
-direct sh p q = cond (is_root (sh.kind p) && not sh.roots_reach) (Beyond (Unclaimed complex) complex direct_to_peer) (Across q)
+direct sh p q = cond (is_root (sh.kind p) && not sh.roots_reach) (Beyond (Unclaimed complex) complex DirectToPeer) (Across q)
 
 unfoldable pub handled : Shape → Tlp → ℕ → ℕ → Handling → Move
 handled sh t p q Direct = direct sh p q
-handled sh t p q Redirect = sent_up sh t p redirected_up
+handled sh t p q Redirect = sent_up sh t p RedirectedUp
 handled sh t p q Violation = violation Egress t p
 
 -- 4. Sibling port q covers it.
@@ -103,11 +93,11 @@ to_peer sh st t p q = handled sh t p q (peer_handling sh st t p q)
 -- 5. Kind 3 whose parent covers it: unclaimed at that parent. Otherwise it enters the port above the parent.
 unfoldable pub past_parent : Shape → Tlp → ℕ → Move
 past_parent sh t p =
-    cond (covers sh t (sh.parent p)) (Beyond (Unclaimed (sh.parent p)) (sh.parent p) as_addressed) (Up as_addressed)
+    cond (covers sh t (sh.parent p)) (Beyond (Unclaimed (sh.parent p)) (sh.parent p) AsAddressed) (Up AsAddressed)
 
 -- 6. Root port: it reaches the host.
 unfoldable pub onward : Shape → Tlp → ℕ → Move
-onward sh t p = cond (is_root (sh.kind p)) (Beyond Host complex as_addressed) (past_parent sh t p)
+onward sh t p = cond (is_root (sh.kind p)) (Beyond Host complex AsAddressed) (past_parent sh t p)
 
 unfoldable pub decide : Shape → Setting → Tlp → ℕ → Move
 decide sh st t p =

@@ -1,12 +1,12 @@
 -- A record filled from a configuration space image (document 02, 2/13): what is written where, what stays, and what is refused.
 use Rattle.std.specs.Prelude.{◌≡◌, Bool, true, false, ◌&&◌, ◌||◌, not, List, [], ◌∷◌, ◌++◌, ℕ, ◌+◌, ◌<◌, eqb, length}
 use Rattle.rules.specs.declared.Range.{Range}
-use Rattle.rules.specs.declared.Structure.{Structure}
-use Rattle.rules.specs.declared.Structure.TheVariants.{Stands, Absent, Bad}
+use Rattle.rules.specs.declared.Extent.{Extent}
+use Rattle.std.specs.Prelude.{Some, None, Ok, Err}
 use Rattle.rules.specs.Bytes.{byte, le_bytes, bytes_from, laid, within}
 use Rattle.rules.specs.Snapshot.{base}
 use Rattle.rules.specs.Image.{image_size, primary_bus, secondary_bus, subordinate_bus, memory_window, prefetchable_window}
-use Rattle.rules.specs.Image.{acs_structure, part_of}
+use Rattle.rules.specs.Image.{Structure, extent, acs_structure, part_of}
 use Rattle.rules.specs.Refuse.{Result, refused, answered, unless, through}
 
 -- a record of a snapshot
@@ -45,17 +45,10 @@ unfoldable pub filled : List ℕ → List ℕ → List ℕ
 filled image r = fill_all (filled_fields image (part_of image (acs_structure image))) r
 
 -- where the ACS structure stands; both 0 where there is none
-pub record Extent : Type 0 where
-  pub offset : ℕ
-  pub length : ℕ
-
-abbrev pub extent : ℕ → ℕ → Extent
-extent offset length = record { offset = offset; length = length }
-
 abbrev pub extent_of : Structure → Extent
-extent_of (Stands at n) = extent at n
-extent_of Absent = extent 0 0
-extent_of Bad = extent 0 0
+extent_of (Ok (Some x)) = x
+extent_of (Ok None) = extent 0 0
+extent_of (Err why) = extent 0 0
 
 -- "8 image not 4,096 bytes", "8 also for a record not 144 bytes, before 9"
 unfoldable pub whole_sizes : List ℕ → List ℕ → Bool
@@ -63,9 +56,8 @@ whole_sizes image r = eqb (length image) image_size && eqb (length r) record_siz
 
 -- 9: the list or the ACS structure is bad
 abbrev pub is_sound : Structure → Bool
-is_sound (Stands at n) = true
-is_sound Absent = true
-is_sound Bad = false
+is_sound (Ok found) = true
+is_sound (Err why) = false
 
 unfoldable pub listed : Structure → Result Extent
 listed acs = through (unless (is_sound acs) 9 ∷ []) (answered (extent_of acs))

@@ -3,8 +3,10 @@ use Rattle.std.specs.Prelude.{Bool, false, cond, ◌&&◌, ◌||◌, not, List, 
 use Rattle.rules.specs.Bytes.{byte, le, bit}
 use Rattle.rules.specs.Snapshot.{bit_e, vector_size}
 use Rattle.rules.specs.declared.Range.{Range}
-use Rattle.rules.specs.declared.Structure.{Structure}
-use Rattle.rules.specs.declared.Structure.TheVariants.{Stands, Absent, Bad}
+use Rattle.std.specs.Prelude.{Option, Some, None, Result, Ok, Err}
+use Rattle.rules.specs.declared.Extent.{Extent}
+use Rattle.rules.specs.declared.Refusal.{Refusal}
+use Rattle.rules.specs.declared.Refusal.TheVariants.{Capabilities}
 
 -- "From a 4,096-byte configuration space image of a bridge"
 abbrev pub image_size : ℕ
@@ -62,6 +64,22 @@ next_offset image at = le 2 image (at + 2) / 16
 abbrev pub is_acs : List ℕ → ℕ → Bool
 is_acs image at = eqb (capability_id image at) 0x000D
 
+-- what an image is found to have: an ACS structure at an offset, of a length; a list that ends without one; or refusal 9
+abbrev pub Structure : Type 0
+Structure = Result (Option Extent) Refusal
+
+abbrev pub extent : ℕ → ℕ → Extent
+extent offset length = record { offset = offset; length = length }
+
+abbrev pub stands : ℕ → ℕ → Structure
+stands at n = Ok (Some (extent at n))
+
+abbrev pub absent : Structure
+absent = Ok None
+
+abbrev pub bad : Structure
+bad = Err Capabilities
+
 -- The ACS structure at an offset has its Capability register 4 bytes on, Control 6, the vector 8. "its structure is 8 bytes, plus
 -- with E the vector in whole doublewords" of 32 bits
 abbrev pub structure_length : ℕ → ℕ
@@ -71,7 +89,7 @@ structure_length capability = 8 + cond (bit bit_e capability) (4 * ((vector_size
 unfoldable pub structure_at : List ℕ → ℕ → Structure
 structure_at image at =
     cond (eqb (capability_version image at) 1 && leb (at + structure_length (le 2 image (at + 4))) (length image))
-    (Stands at (structure_length (le 2 image (at + 4)))) Bad
+    (stands at (structure_length (le 2 image (at + 4)))) bad
 
 -- "Extended capabilities start at 100h as a linked list"
 abbrev pub list_start : ℕ
@@ -90,10 +108,10 @@ is_among at (x ∷ l) = eqb at x || is_among at l
 -- nor a multiple of 4 from 100h, or already visited". "The walk stops at the first ACS". There is a step less at each header; that
 -- none is left never comes up with the steps below (theorem enough_steps_lem).
 unfoldable pub follow : List ℕ → ℕ → List ℕ → ℕ → Structure
-follow image zero visited at = Bad
+follow image zero visited at = bad
 follow image (suc steps) visited at =
-    cond (eqb at 0) Absent
-    (cond (not (is_offset at) || is_among at visited) Bad
+    cond (eqb at 0) absent
+    (cond (not (is_offset at) || is_among at visited) bad
     (cond (is_acs image at) (structure_at image at)
     (follow image steps (at ∷ visited) (next_offset image at))))
 
@@ -106,6 +124,6 @@ acs_structure image = follow image enough_steps [] list_start
 
 -- "Hand back the ACS structure itself as that part of the image." "A list that ends without ACS gives .. an empty part."
 abbrev pub part_of : List ℕ → Structure → List ℕ
-part_of image (Stands at n) = take n (drop at image)
-part_of image Absent = []
-part_of image Bad = []
+part_of image (Ok (Some x)) = take x.length (drop x.offset image)
+part_of image (Ok None) = []
+part_of image (Err why) = []

@@ -8,7 +8,8 @@ use Rattle.rules.specs.Snapshot.{count, kind, control, is_root, is_upstream, is_
 use Rattle.rules.specs.Fabric.{Shape}
 use Rattle.rules.specs.declared.Tlp.{Tlp}
 use Rattle.rules.specs.Cover.{covers, is_peer, is_entry, is_child, is_way_on}
-use Rattle.rules.specs.Decide.{redirected_up, up_by_u, reflected}
+use Rattle.rules.specs.Decide.{action_number}
+use Rattle.rules.specs.declared.Action.TheVariants.{RedirectedUp, Reflected, UpByU}
 use Rattle.rules.specs.Route.{Hop, above}
 
 -- What the record rules give of the tree, as routing sees it.
@@ -86,7 +87,7 @@ port_above sh (suc n) p = above sh (port_above sh n p)
 -- some hop was redirected up, up by U, or reflected
 abbrev pub was_sent_up : List Hop → Bool
 was_sent_up [] = false
-was_sent_up (h ∷ l) = eqb h.action redirected_up || eqb h.action up_by_u || eqb h.action reflected || was_sent_up l
+was_sent_up (h ∷ l) = eqb h.action (action_number RedirectedUp) || eqb h.action (action_number UpByU) || eqb h.action (action_number Reflected) || was_sent_up l
 
 -- The ends of a TLP that was sent up: a checked delivery, unclaimed at a record below the root complex that reflected it,
 -- violation V, B or X, or undefined; not the host, and no delivery that is unvalidated.

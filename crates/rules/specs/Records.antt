@@ -1,12 +1,12 @@
 -- When a record is faulty: the rules of document 01, a definition to each, in its order. Record i is held against itself and
 -- earlier records; it depends on nothing past record i, nor on the header's count.
 use Rattle.std.specs.Prelude.{◌≡◌, Bool, true, cond, ◌&&◌, ◌||◌, not, List, [], ◌∷◌, ℕ, ◌+◌, ◌-◌, ◌^◌, ◌%◌, eqb, leb, ltb}
-use Rattle.rules.specs.declared.Found.{Found}
 use Rattle.rules.specs.Below.{all_of, all_below, any_below, find_from}
 use Rattle.rules.specs.Bytes.{byte, bit, within}
 use Rattle.rules.specs.Snapshot.{count, base, kind, port_number, parent, own_bus, devfn, secondary, subordinate, capability, control, first, last}
 use Rattle.rules.specs.Snapshot.{closed, is_open, is_root, is_upstream, is_downstream, is_endpoint, is_port}
 use Rattle.rules.specs.Snapshot.{is_bridge, bit_v, bit_b, bit_r, bit_c, bit_u, bit_t, complex}
+use Rattle.std.specs.Prelude.{Option}
 
 -- the n bytes from `at` on are zero
 abbrev pub zeros : List ℕ → ℕ → ℕ → Bool
@@ -182,5 +182,5 @@ unfoldable pub faulty : List ℕ → ℕ → Bool
 faulty s i = not (fine s i)
 
 -- the lowest faulty record
-unfoldable pub lowest_faulty : List ℕ → Found
+unfoldable pub lowest_faulty : List ℕ → Option ℕ
 lowest_faulty s = find_from (faulty s) (count s) 0

@@ -1,13 +1,12 @@
 -- The refusal table in its exact order, the whole answer, and the final bytes of the buffer.
 use Rattle.std.specs.Prelude.{Bool, true, false, ◌&&◌, ◌||◌, List, [], ◌∷◌, ◌++◌, ℕ, ◌*◌, eqb, leb, ltb, length, drop}
-use Rattle.rules.specs.declared.Found.{Found}
-use Rattle.rules.specs.declared.Found.TheVariants.{At, Nothing}
 use Rattle.rules.specs.Bytes.{within}
 use Rattle.rules.specs.Snapshot.{base, marked, flags, version, count, taken, good_until, kind, is_endpoint, complex}
 use Rattle.rules.specs.Records.{lowest_faulty}
 use Rattle.rules.specs.Fabric.{shape_of, setting_of}
 use Rattle.rules.specs.Tlp.{header_fine, tlp_of}
 use Rattle.rules.specs.Route.{hop_bytes, Trip, route}
+use Rattle.std.specs.Prelude.{Option, Some, None}
 
 -- A test that lets an input pass, or refuses it with a number and an index.
 pub data Gate : Type 0 where
@@ -18,9 +17,9 @@ abbrev pub unless : Bool → ℕ → Gate
 unless true number = passes
 unless false number = refuses number 0
 
-abbrev pub unless_found : Found → ℕ → Gate
-unless_found Nothing number = passes
-unless_found (At i) number = refuses number i
+abbrev pub unless_found : Option ℕ → ℕ → Gate
+unless_found None number = passes
+unless_found (Some i) number = refuses number i
 
 -- a whole answer of type A, or a refusal's number and index
 pub data Result (A : Type 0) : Type 0 where

@@ -13,7 +13,8 @@ use Rattle.rules.specs.Below.{among}
 use Rattle.rules.specs.Snapshot.{is_endpoint, complex}
 use Rattle.rules.specs.Fabric.{Shape, Setting}
 use Rattle.rules.specs.Cover.{covers, entry_for, child_for, way_on}
-use Rattle.rules.specs.Decide.{direct_to_peer, reflected, downward, ends_here, decide}
+use Rattle.rules.specs.declared.Action.TheVariants.{DirectToPeer, Reflected, Downward, EndsHere}
+use Rattle.rules.specs.Decide.{action_number, decide}
 
 -- A hop: index and action. In the buffer it is four bytes: index (2), action, 0.
 pub record Hop : Type 0 where
@@ -59,9 +60,9 @@ next_down sh t p = among (child_for sh t p) (through_child sh t) Alone
 
 -- Each port entered gives one hop; kind 2 only as end.
 abbrev pub hop_down : ℕ → Down → (ℕ → Way) → Way
-hop_down p (Into q) on = record { landing = (on q).landing; hops = hop p downward ∷ (on q).hops }
-hop_down p (Lands l) on = record { landing = l; hops = hop p downward ∷ hop (lands_at l) ends_here ∷ [] }
-hop_down p Alone on = record { landing = Nobody p; hops = hop p ends_here ∷ [] }
+hop_down p (Into q) on = record { landing = (on q).landing; hops = hop p (action_number Downward) ∷ (on q).hops }
+hop_down p (Lands l) on = record { landing = l; hops = hop p (action_number Downward) ∷ hop (lands_at l) (action_number EndsHere) ∷ [] }
+hop_down p Alone on = record { landing = Nobody p; hops = hop p (action_number EndsHere) ∷ [] }
 
 -- going down from port p, with fuel that the record count bounds
 unfoldable pub down_from : Shape → Tlp → ℕ → ℕ → Way
@@ -79,7 +80,7 @@ arrived checked w = record { end = landed checked w.landing; hops = w.hops }
 unfoldable pub from_top : Shape → Tlp → Bool → Trip
 from_top sh t checked =
     among (entry_for sh t) (λ q. arrived checked (down sh t q))
-    (record { end = Unclaimed complex; hops = hop complex ends_here ∷ [] })
+    (record { end = Unclaimed complex; hops = hop complex (action_number EndsHere) ∷ [] })
 
 abbrev pub before : Hop → Trip → Trip
 before h r = record { end = r.end; hops = h ∷ r.hops }
@@ -90,11 +91,11 @@ above sh p = sh.parent (sh.parent p)
 
 -- one port's hop on the way up, and what follows it
 abbrev pub hop_up : Shape → Tlp → ℕ → Move → (ℕ → Trip) → Trip
-hop_up sh t p (Up action) on = before (hop p action) (on (above sh p))
-hop_up sh t p (Across q) on = before (hop p direct_to_peer) (arrived false (down sh t q))
-hop_up sh t p Reflect on = before (hop p reflected) (from_top sh t true)
-hop_up sh t p (Stop end) on = record { end = end; hops = hop p ends_here ∷ [] }
-hop_up sh t p (Beyond end node action) on = record { end = end; hops = hop p action ∷ hop node ends_here ∷ [] }
+hop_up sh t p (Up action) on = before (hop p (action_number action)) (on (above sh p))
+hop_up sh t p (Across q) on = before (hop p (action_number DirectToPeer)) (arrived false (down sh t q))
+hop_up sh t p Reflect on = before (hop p (action_number Reflected)) (from_top sh t true)
+hop_up sh t p (Stop end) on = record { end = end; hops = hop p (action_number EndsHere) ∷ [] }
+hop_up sh t p (Beyond end node action) on = record { end = end; hops = hop p (action_number action) ∷ hop node (action_number EndsHere) ∷ [] }
 
 -- going up from port p, with fuel that the record count bounds
 unfoldable pub up_from : Shape → Setting → Tlp → ℕ → ℕ → Trip

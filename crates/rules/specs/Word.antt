@@ -8,15 +8,13 @@ use Rattle.rules.specs.declared.Outcome.{Outcome}
 use Rattle.rules.specs.declared.Outcome.TheVariants.{Delivered, Host, Unclaimed, Undefined, Violated}
 use Rattle.rules.specs.declared.Refusal.{Refusal}
 use Rattle.rules.specs.declared.Refusal.TheVariants.{Malformed, Version, Time, Faulty, Origin, Header, Room, Length, Capabilities}
-use Rattle.rules.specs.declared.Check.{Check}
-use Rattle.rules.specs.declared.Check.TheVariants as check
-use Rattle.rules.specs.declared.Answer.{Answer}
-use Rattle.rules.specs.declared.Answer.TheVariants as answer
+use Rattle.rules.specs.declared.Refused.{Refused}
+use Rattle.rules.specs.declared.Ended.{Ended}
+use Rattle.rules.specs.declared.Extent.{Extent}
+use Rattle.std.specs.Prelude.{Ok, Err}
+use Rattle.std.specs.Prelude as std
 use Rattle.rules.specs.Route.{Trip}
-use Rattle.rules.specs.declared.Fill.{Fill}
-use Rattle.rules.specs.declared.Fill.TheVariants as fill
 use Rattle.rules.specs.Refuse.{Result, refused, answered}
-use Rattle.rules.specs.Fill.{Extent, extent}
 
 pub record Fields : Type 0 where
   -- 0 delivered unvalidated, 1 delivered checked, 2 host, 3 unclaimed, 4 undefined, 5 violation, 6 refused; of a fill 0
@@ -79,15 +77,29 @@ abbrev pub fill_fields : Result Extent → Fields
 fill_fields (refused number i) = refusal_fields number i
 fill_fields (answered x) = fields 0 0 x.offset x.length 0
 
--- the numbers for each case of what the code answers
+-- a refusal without an index has index 0
+abbrev pub refused_for : Refusal → Refused
+refused_for why = record { why = why; index = 0 }
+
+-- what the code answers: a check, a query and a fill
+abbrev pub Check : Type 0
+Check = std.Result (Unit {0}) Refused
+
+abbrev pub Answer : Type 0
+Answer = std.Result Ended Refused
+
+abbrev pub Fill : Type 0
+Fill = std.Result Extent Refused
+
+-- the numbers for each case of it
 abbrev pub verdict_of : Check → Result (Unit {0})
-verdict_of check.Accepted = answered tt
-verdict_of (check.Refused why i) = refused (number_of why) i
+verdict_of (Ok ok) = answered tt
+verdict_of (Err x) = refused (number_of x.why) x.index
 
 abbrev pub answer_fields : Answer → Fields
-answer_fields (answer.Refused why i) = refusal_fields (number_of why) i
-answer_fields (answer.Ended end count) = end_fields end count
+answer_fields (Ok x) = end_fields x.end x.count
+answer_fields (Err x) = refusal_fields (number_of x.why) x.index
 
 abbrev pub fill_of : Fill → Result Extent
-fill_of (fill.Refused why i) = refused (number_of why) i
-fill_of (fill.Filled offset length) = answered (extent offset length)
+fill_of (Ok x) = answered x
+fill_of (Err x) = refused (number_of x.why) x.index

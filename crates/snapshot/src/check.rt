@@ -1,87 +1,99 @@
 // The refusals 1 to 4, in their exact order.
-ghost use Rattle.std.specs.Prelude.{◌≡◌, ◌≤◌, length};
+ghost use Rattle.std.specs.Prelude.{◌≡◌, ◌≤◌, length, is_some, IfSome, IfOk, IfErr, OnOk};
+ghost use Rattle.rules.specs.Snapshot.{base, count};
 ghost use Rattle.rules.specs.Refuse as refuse;
-ghost use Rattle.rules.specs.Word.{verdict_of};
-ghost use Rattle.snapshot.specs.Parts.{first_refusal, header_verdict, refused_if};
+ghost use Rattle.rules.specs.Refuse.{answered, refused};
+ghost use Rattle.rules.specs.Records.{lowest_faulty};
+ghost use Rattle.rules.specs.Word.{number_of, verdict_of};
+ghost use Rattle.snapshot.specs.Parts.{after, header_verdict};
 
-use layout::fields::{count, flags, good_until, taken, version};
+use layout::fabric::Fabric;
+use layout::snapshot::{Snapshot, has_mark};
 use records::faulty::lowest_faulty;
-use rules::{Check, Found, Refusal};
+use rules::{Refusal, Refused};
 
-fn begun(s: &[u8]) -> bool
-    ensures { result ≡ refuse.begun s.now }
+// The snapshot, where its header is there and begins with the mark.
+#[tactic(auto, unfolding(rules::specs::Refuse::begun))]
+fn begun<'a>(bytes: &'a [u8]) -> Option<Snapshot<'a>>
+    ensures begun { is_some result ≡ refuse.begun bytes.now }
+    ensures bytes { IfSome result (λ s. s.bytes.now ≡ bytes.now) }
 {
-    if s.len() < 24 {
-        return false;
+    if bytes.len() < 24 || !has_mark(bytes) {
+        return None;
     }
-    layout::fields::has_mark(s)
+    Some(Snapshot { bytes })
 }
 
-fn known_version(s: &[u8]) -> bool
-    requires { 24 ≤ length s.now }
-    ensures { result ≡ refuse.known_version s.now }
+#[tactic(auto, unfolding(rules::specs::Refuse::known_version))]
+fn known_version(s: Snapshot<'_>) -> bool
+    ensures { result ≡ refuse.known_version s.entry.bytes.now }
 {
-    version(s) == 1
+    s.version() == 1
 }
 
-fn well_made(s: &[u8]) -> bool
-    requires { 24 ≤ length s.now }
-    ensures { result ≡ refuse.well_made s.now }
+#[tactic(auto, unfolding(rules::specs::Refuse::well_made))]
+fn well_made(s: Snapshot<'_>) -> bool
+    ensures { result ≡ refuse.well_made s.entry.bytes.now }
 {
-    let n = count(s);
-    (flags(s) < 4) & (n <= 256) & (taken(s) <= good_until(s)) & (s.len() == 24 + 144 * (n as usize))
+    s.flags() < 4
+        && s.count() <= 256
+        && s.taken() <= s.good_until()
+        && s.bytes.len() == 24 + 144 * usize::from(s.count())
 }
 
-fn in_time(s: &[u8], time: u64) -> bool
-    requires { 24 ≤ length s.now }
-    ensures { result ≡ refuse.in_time s.now time }
+#[tactic(auto, unfolding(rules::specs::Refuse::in_time))]
+fn in_time(s: Snapshot<'_>, time: u64) -> bool
+    ensures { result ≡ refuse.in_time s.entry.bytes.now time }
 {
-    (taken(s) <= time) & (time <= good_until(s))
+    s.taken() <= time && time <= s.good_until()
+}
+
+// Refuses where a test does not hold.
+fn require(holds: bool, why: Refusal) -> Result<(), Refusal>
+    ensures { result ≡ after holds why (Ok tt) }
+{
+    if holds { Ok(()) } else { Err(why) }
 }
 
 // Refusals 2, the rest of 1, and 3, in their order.
-fn first_refusal(wrong_version: bool, ill_made: bool, untimely: bool) -> Check
-    ensures { result ≡ first_refusal wrong_version ill_made untimely }
+#[tactic(auto, unfolding(crate::specs::Parts::header_verdict))]
+fn check_header(s: Snapshot<'_>, time: u64) -> Result<(), Refusal>
+    ensures { result ≡ header_verdict s.entry.bytes.now time }
 {
-    if wrong_version {
-        return Check::Refused(Refusal::Version, 0);
-    }
-    if ill_made {
-        return Check::Refused(Refusal::Malformed, 0);
-    }
-    if untimely {
-        return Check::Refused(Refusal::Time, 0);
-    }
-    Check::Accepted
+    require(known_version(s), Refusal::Version)?;
+    require(well_made(s), Refusal::Malformed)?;
+    require(in_time(s, time), Refusal::Time)
 }
 
-// What the header is refused for.
-fn check_header(s: &[u8], time: u64) -> Check
-    requires { 24 ≤ length s.now }
-    ensures { result ≡ header_verdict s.now time }
+// Refuses the lowest faulty record, where there is one.
+fn require_faultless(s: Snapshot<'_>) -> Result<(), Refused>
+    requires { base (count s.bytes.now) ≤ length s.bytes.now }
+    ensures passes { OnOk result (lowest_faulty s.entry.bytes.now ≡ None) }
+    ensures refuses { IfErr result (λ e. (e.why ≡ Refusal.Faulty) × (lowest_faulty s.entry.bytes.now ≡ Some e.index)) }
 {
-    first_refusal(!known_version(s), !well_made(s), !in_time(s, time))
-}
-
-// The answer by what the search for a faulty record gives.
-fn refused_if(faulty: Found) -> Check
-    ensures { result ≡ refused_if faulty }
-{
-    match faulty {
-        Found::At(i) => Check::Refused(Refusal::Faulty, i),
-        Found::Nothing => Check::Accepted,
+    let why = Refusal::Faulty;
+    match lowest_faulty(s) {
+        Some(index) => Err(Refused { why, index }),
+        None => Ok(()),
     }
 }
 
-pub fn check(s: &[u8], time: u64) -> Check
+// The fabric that the bytes describe, where no test refuses them.
+pub fn accept<'a>(bytes: &'a [u8], time: u64) -> Result<Fabric<'a>, Refused>
+    ensures bytes { IfOk result (λ fabric. fabric.bytes.now ≡ bytes.now) }
+    ensures accepted { OnOk result (refuse.verdict bytes.now time ≡ answered tt) }
+    ensures refused { IfErr result (λ e. refuse.verdict bytes.now time ≡ refused (number_of e.why) e.index) }
+{
+    let snapshot = begun(bytes).ok_or(Refusal::Malformed)?;
+    check_header(snapshot, time)?;
+    require_faultless(snapshot)?;
+    Ok(Fabric { bytes })
+}
+
+// What the snapshot is refused for, if anything.
+pub fn check(s: &[u8], time: u64) -> Result<(), Refused>
     ensures { verdict_of result ≡ refuse.verdict s.now time }
 {
-    if begun(s) {
-        match check_header(s, time) {
-            Check::Accepted => refused_if(lowest_faulty(s)),
-            Check::Refused(why, i) => Check::Refused(why, i),
-        }
-    } else {
-        Check::Refused(Refusal::Malformed, 0)
-    }
+    accept(s, time)?;
+    Ok(())
 }

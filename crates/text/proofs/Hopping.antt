@@ -1,61 +1,69 @@
--- The hops of a hop buffer as text, one after the other; and a buffer that starts with the bytes of hops gives their text.
-use mathlib.Core.Path.{◌≡◌, refl, sym, ◌∙◌, ap}
-use mathlib.Core.List.{List, [], ◌∷◌, ◌++◌, append_assoc, append-nil}
-use Prim.Native.Nat.{ℕ, zero, suc, ◌+◌, ◌*◌, ◌/◌, ◌%◌, ◌≤◌}
-use native.Mathlib.Numerals.{add-one}
+-- The hops of a hop buffer as text: one more, how long they are, and those that the bytes of hops give.
+use mathlib.Core.Path.{◌≡◌, refl}
+use mathlib.Core.List.{List, [], ◌∷◌, ◌++◌}
+use Prim.Native.Nat.{ℕ, ◌+◌, ◌*◌, ◌/◌, ◌%◌, ◌≤◌, ◌<◌}
 use native.Mathlib.Omega.{arith}
-use lib.ListN.{length}
+use lib.ListN.{length, length-append}
 use lib.Seq.{get_or-append-add}
 use Rattle.rules.specs.Bytes.{byte, le}
 use Rattle.rules.specs.Route.{Hop, hop, hop_bytes}
-use Rattle.text.specs.Text.{hop_text, hops_text}
-use Rattle.text.specs.Put.{Put, hops_in}
-use Rattle.text.proofs.Putting.{put_none, loose, named, then}
+use Rattle.text.specs.Text.{number, hop_text, hops_text, hops_in}
+use Rattle.text.specs.Room.{put}
+use Rattle.text.proofs.Decimals.{number_short, named_twice_short}
+use Rattle.text.proofs.Putting.{put_none, put_both}
 
--- the loop
-
-pub hops_none : (hops b : List ℕ) (at : ℕ) → Put (12 * 0) b at (hops_in hops 0) at b
+-- the first hop, and then the rest
+first_hop : (h rest : List ℕ) → length h ≡ 4 → hops_in (h ++ rest) ≡ hop_text (hop (le 2 h 0) (byte h 2)) ++ hops_in rest
 unfolding hops_in
-hops_none hops b at = put_none b at
+first_hop [] rest l = absurd (omega arith)
+first_hop (a ∷ []) rest l = absurd (omega arith)
+first_hop (a ∷ b ∷ []) rest l = absurd (omega arith)
+first_hop (a ∷ b ∷ c ∷ []) rest l = absurd (omega arith)
+first_hop (a ∷ b ∷ c ∷ d ∷ []) rest l = let e : b + 256 * 0 ≡ b = omega arith in rw e refl
+first_hop (a ∷ b ∷ c ∷ d ∷ f ∷ h) rest l = absurd (omega arith)
 
-pub hops_turn : (hops : List ℕ) (k : ℕ) {i : ℕ} {b : List ℕ} {at mid next : ℕ} {half after : List ℕ} → Put (12 * k) b at (hops_in hops k) mid half
-    → i ≡ le 2 hops (4 * k) → Put 12 half mid (hop_text (hop i (byte hops (4 * k + 2)))) next after
-    → Put (12 * (k + 1)) b at (hops_in hops (k + 1)) next after
+no_hop : (rest : List ℕ) → length rest < 4 → hops_in rest ≡ []
 unfolding hops_in
-hops_turn hops k p e q =
-    rw (add-one k)
-    (loose (then p (named (ap (λ (i : ℕ). hop_text (hop i (byte hops (4 * k + 2)))) e) q)) (omega arith))
+no_hop [] l = refl
+no_hop (a ∷ []) l = refl
+no_hop (a ∷ b ∷ []) l = refl
+no_hop (a ∷ b ∷ c ∷ []) l = refl
+no_hop (a ∷ b ∷ c ∷ d ∷ rest) l = absurd (omega arith)
 
-pub hops_end : (hops : List ℕ) (k : ℕ) {count : ℕ} {b : List ℕ} {at next : ℕ} {after : List ℕ} → count ≤ k → k ≤ count
-    → Put (12 * k) b at (hops_in hops k) next after → Put (12 * count) b at (hops_in hops count) next after
-hops_end hops k {count} l r p = let e : count ≡ k = omega arith in rw e p
+-- the loop puts the first hop, and leaves the rest
+pub hop_put : (t h rest left : List ℕ) {i : ℕ} {new : List ℕ} → left ≡ h ++ rest → length h ≡ 4 → i ≡ le 2 h 0
+    → new ≡ put t (hop_text (hop i (byte h 2))) → put new (hops_in rest) ≡ put t (hops_in left)
+hop_put t h rest left e l f p =
+    rw (p, f, e, first_hop h rest l) (put_both t (hop_text (hop (le 2 h 0) (byte h 2))) (hops_in rest))
 
--- what the bytes say
+pub hops_put : (t rest : List ℕ) → length rest < 4 → put t (hops_in rest) ≡ t
+hops_put t rest l = rw (no_hop rest l) (put_none t)
 
-module _ (w x y z : ℕ) (l : List ℕ) where
-  shift : (j : ℕ) → byte (w ∷ x ∷ y ∷ z ∷ l) (4 + j) ≡ byte l j
-  shift j = get_or-append-add (w ∷ x ∷ y ∷ z ∷ []) l j 0
+pub hop_short : (i a : ℕ) → length (number i) ≤ 5 → length (number a) ≤ 5 → length (hop_text (hop i a)) ≤ 12
+unfolding hop_text
+hop_short i a l r = named_twice_short (32 ∷ []) (58 ∷ []) i a l r
 
-  -- the hop at number k, one further on
-  hop_shift : (k : ℕ) → hop_text (hop (le 2 (w ∷ x ∷ y ∷ z ∷ l) (4 * suc k)) (byte (w ∷ x ∷ y ∷ z ∷ l) (4 * suc k + 2)))
-      ≡ hop_text (hop (le 2 l (4 * k)) (byte l (4 * k + 2)))
-  hop_shift k =
-      let e1 : 4 * suc k ≡ 4 + 4 * k = omega arith in
-      let e2 : 4 * suc k + 1 ≡ 4 + (4 * k + 1) = omega arith in
-      let e3 : 4 * suc k + 2 ≡ 4 + (4 * k + 2) = omega arith in
-      rw (e2, e3, e1, shift (4 * k + 1), shift (4 * k + 2), shift (4 * k))
+-- twelve bytes at most for four
+pub hops_short : (b : List ℕ) → ((i : ℕ) → byte b i < 256) → length (hops_in b) ≤ 3 * length b
+unfolding hops_in
+hops_short [] f = omega arith
+hops_short (x ∷ []) f = omega arith
+hops_short (x ∷ y ∷ []) f = omega arith
+hops_short (x ∷ y ∷ z ∷ []) f = omega arith
+hops_short (x ∷ y ∷ z ∷ w ∷ b) f =
+    let low = f 0 in
+    let high = f 1 in
+    let action = f 2 in
+    let h = hop_short (x + 256 * y) z (number_short (x + 256 * y) (omega arith)) (number_short z (omega arith)) in
+    let rest = hops_short b (λ i. rw (← get_or-append-add (x ∷ y ∷ z ∷ w ∷ []) b i 0) (f (4 + i))) in
+    rw (length-append (hop_text (hop (x + 256 * y) z)) (hops_in b)) (omega arith)
 
-  one_more : (k : ℕ) → hops_in (w ∷ x ∷ y ∷ z ∷ l) (suc k) ≡ hop_text (hop (w + 256 * (x + 256 * 0)) y) ++ hops_in l k
-  unfolding hops_in
-  one_more zero = sym (append-nil (hop_text (hop (w + 256 * (x + 256 * 0)) y)))
-  one_more (suc k) =
-      rw (one_more k, hop_shift k)
-      (append_assoc (hop_text (hop (w + 256 * (x + 256 * 0)) y)) (hops_in l k) (hop_text (hop (le 2 l (4 * k)) (byte l (4 * k + 2)))))
-
-pub hops_told : (hs : List Hop) (rest : List ℕ) → hops_in (hop_bytes hs ++ rest) (length hs) ≡ hops_text hs
+pub hops_told : (hs : List Hop) → hops_in (hop_bytes hs) ≡ hops_text hs
 unfolding hops_in hops_text
-hops_told [] rest = refl
-hops_told (h ∷ hs) rest =
-    let e : h.index % 256 + 256 * (h.index / 256 + 256 * 0) ≡ h.index = omega arith in
-    one_more (h.index % 256) (h.index / 256) h.action 0 (hop_bytes hs ++ rest) (length hs)
-    ∙ rw (e, hops_told hs rest)
+hops_told [] = refl
+hops_told (h ∷ hs) = let e : h.index % 256 + 256 * (h.index / 256) ≡ h.index = omega arith in rw (e, hops_told hs) refl
+
+-- four bytes a hop
+pub length_hop_bytes : (hs : List Hop) → length (hop_bytes hs) ≡ 4 * length hs
+length_hop_bytes [] = refl
+length_hop_bytes (h ∷ hs) = let e = length_hop_bytes hs in omega arith

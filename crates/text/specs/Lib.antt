@@ -1,3 +1,3 @@
 pub mod Ascii
 pub mod Text
-pub mod Put
+pub mod Room

@@ -1,12 +1,12 @@
 -- The text that `acsroute` prints for its input, byte by byte.
-use Rattle.std.specs.Prelude.{Bool, true, false, cond, List, [], ◌∷◌, ◌++◌, ℕ, zero, suc, ◌+◌, ◌/◌, ◌%◌, ltb}
+use Rattle.std.specs.Prelude.{Bool, true, false, cond, List, [], ◌∷◌, ◌++◌, ℕ, zero, suc, ◌+◌, ◌*◌, ◌/◌, ◌%◌, ltb}
 use Prim.Native.Char.{code}
 use Rattle.rules.specs.declared.Letter.{Letter}
 use Rattle.rules.specs.declared.Letter.TheVariants.{Source, Translation, Egress, Validation}
 use Rattle.rules.specs.declared.Outcome.{Outcome}
 use Rattle.rules.specs.declared.Outcome.TheVariants.{Delivered, Host, Unclaimed, Undefined, Violated}
 use Rattle.rules.specs.Snapshot.{version, count, complex}
-use Rattle.rules.specs.Route.{Hop, Trip}
+use Rattle.rules.specs.Route.{Hop, Trip, hop}
 use Rattle.rules.specs.Refuse.{Result, refused, answered}
 use Rattle.text.specs.Ascii.{ascii}
 
@@ -53,6 +53,11 @@ hop_text h = ascii " " ++ (number h.index ++ (ascii ":" ++ number h.action))
 unfoldable pub hops_text : List Hop → List ℕ
 hops_text [] = []
 hops_text (h ∷ l) = hop_text h ++ hops_text l
+
+-- the hops of a hop buffer, four bytes each: the index in two, the action, and one that is not told
+unfoldable pub hops_in : List ℕ → List ℕ
+hops_in (low ∷ high ∷ action ∷ last ∷ l) = hop_text (hop (low + 256 * high) action) ++ hops_in l
+hops_in l = []
 
 -- mark, version, record count
 unfoldable pub head_text : List ℕ → List ℕ

@@ -1,5 +1,7 @@
 // Words, numbers and lines put into a text.
 #![tactic(auto)]
 
-pub mod lines;
-pub mod put;
+mod buffer;
+mod lines;
+
+pub use buffer::Text;

@@ -1,67 +1,31 @@
-// Hops, outcomes, refusals and the head put into the text.
-ghost use Rattle.std.specs.Prelude.{◌≡◌, ◌++◌, ◌+◌, ◌*◌, ◌≤◌, length};
+// Hops, outcomes, refusals and the head put into the text. They are methods, and no `impl Display`:
+// `write!` promises its bytes only where it returns `Ok`, and nothing promises that it does, while
+// `report` promises its text on every input.
+ghost use Rattle.std.specs.Prelude.{◌≡◌, ◌++◌, ◌*◌, ◌≤◌, length};
 ghost use Rattle.rules.specs.declared.Outcome.TheVariants.{Delivered, Violated};
 ghost use Rattle.rules.specs.Route.{hop};
 ghost use Rattle.rules.specs.Word.{number_of};
-ghost use Rattle.rules.specs.Bound.{most_hops};
 ghost use Rattle.text.specs.Text as text;
-ghost use Rattle.text.specs.Put.{Put, hops_in};
+ghost use Rattle.text.specs.Room.{put};
 
-use crate::put::{put_byte, put_number, put_word};
-use layout::fields::COMPLEX;
-use numbers::le_u16;
-use route::answer::ROOM_FOR_ALL;
-use route::refusals::refusal_number;
+use crate::Text;
+use layout::COMPLEX;
+use numbers::le;
 use rules::{Letter, Outcome, Refusal};
 
-// A hop as index:action.
-fn put_hop(out: &mut [u8; 4096], at: usize, index: u16, action: u8) -> usize
-    ensures { Put 12 out.old at (text.hop_text (hop index action)) result out.new }
+// Of a delivery: whether it was checked. This and the next choose between two words, as their
+// definitions do.
+fn checked_word(checked: bool) -> &'static str
+    ensures { result.now ≡ text.checked_text checked }
 {
-    let spaced = put_byte(out, at, b' ');
-    let named = put_number(out, spaced, index);
-    let parted = put_byte(out, named, b':');
-    put_number(out, parted, action as u16)
-}
-
-// The first `count` hops of a hop buffer.
-pub fn put_hops(out: &mut [u8; 4096], at: usize, hops: &[u8; ROOM_FOR_ALL], count: usize) -> usize
-    requires { count ≤ most_hops }
-    ensures { Put (12 * count) out.old at (hops_in hops.now count) result out.new }
-{
-    let mut next = at;
-    for k in 0..count {
-        next = put_hop(out, next, le_u16(hops, 4 * k), hops[4 * k + 2]);
-    }
-    next
-}
-
-// A word and a number.
-fn put_named(out: &mut [u8; 4096], at: usize, word: &[u8], n: u16) -> usize
-    ensures { Put (length word.now + 5) out.old at (word.now ++ text.number n) result out.new }
-{
-    let next = put_word(out, at, word);
-    put_number(out, next, n)
-}
-
-// Of a delivery: whether it was checked.
-fn put_checked(out: &mut [u8; 4096], at: usize, checked: bool) -> usize
-    ensures { Put 12 out.old at (text.checked_text checked) result out.new }
-{
-    if checked {
-        return put_word(out, at, b" checked");
-    }
-    put_word(out, at, b" unvalidated")
+    if checked { " checked" } else { " unvalidated" }
 }
 
 // Of a violation: whether it is a completer abort.
-fn put_abort(out: &mut [u8; 4096], at: usize, aborts: bool) -> usize
-    ensures { Put 6 out.old at (text.abort_text aborts) result out.new }
+fn abort_word(aborts: bool) -> &'static str
+    ensures { result.now ≡ text.abort_text aborts }
 {
-    if aborts {
-        return put_word(out, at, b" abort");
-    }
-    put_word(out, at, b" drop")
+    if aborts { " abort" } else { " drop" }
 }
 
 // V, B, E, X.
@@ -76,53 +40,91 @@ fn letter_of(letter: Letter) -> u8
     }
 }
 
-fn put_delivery(out: &mut [u8; 4096], at: usize, i: u16, checked: bool) -> usize
-    ensures { Put 27 out.old at (text.end_text (Delivered i checked)) result out.new }
-{
-    let worded = put_word(out, at, b"delivered ");
-    let named = put_number(out, worded, i);
-    put_checked(out, named, checked)
-}
-
-fn put_violation(out: &mut [u8; 4096], at: usize, letter: Letter, i: u16, aborts: bool) -> usize
-    ensures { Put 27 out.old at (text.end_text (Violated letter i aborts)) result out.new }
-{
-    let worded = put_word(out, at, b"violation ");
-    let named = put_number(out, worded, i);
-    let spaced = put_byte(out, named, b' ');
-    let lettered = put_byte(out, spaced, letter_of(letter));
-    put_abort(out, lettered, aborts)
-}
-
-// What a TLP comes to, and where.
-pub fn put_end(out: &mut [u8; 4096], at: usize, end: Outcome) -> usize
-    ensures { Put 27 out.old at (text.end_text end) result out.new }
-{
-    match end {
-        Outcome::Delivered(i, checked) => put_delivery(out, at, i, checked),
-        Outcome::Host => put_named(out, at, b"host ", COMPLEX),
-        Outcome::Unclaimed(i) => put_named(out, at, b"unclaimed ", i),
-        Outcome::Undefined(i) => put_named(out, at, b"undefined ", i),
-        Outcome::Violated(letter, i, aborts) => put_violation(out, at, letter, i, aborts),
+impl Text {
+    // A word and a number.
+    #[tactic(auto, using(crate::proofs::Putting::put_both))]
+    fn push_named(&mut self, word: &str, n: u16)
+        ensures line { self.new ≡ put self.old (word.now ++ text.number n) }
+        ensures short { length (text.number n) ≤ 5 }
+    {
+        self.push_str(word);
+        self.push_number(n);
     }
-}
 
-// Mark, version, record count.
-pub fn put_head(out: &mut [u8; 4096], at: usize, s: &[u8]) -> usize
-    requires { 8 ≤ length s.now }
-    ensures { Put 23 out.old at (text.head_text s.now) result out.new }
-{
-    let marked = put_word(out, at, b"ACS ");
-    let version = put_number(out, marked, le_u16(s, 4));
-    let named = put_word(out, version, b" records ");
-    put_number(out, named, le_u16(s, 6))
-}
+    // A hop as index:action, the action as the byte that stands in the buffer.
+    #[tactic(auto, using(crate::proofs::Putting::put_both), unfolding(crate::specs::Text::hop_text))]
+    fn push_hop(&mut self, index: u16, action: u8)
+        ensures line { self.new ≡ put self.old (text.hop_text (hop index action)) }
+        ensures short { length (text.hop_text (hop index action)) ≤ 12 }
+    {
+        self.push_named(" ", index);
+        self.push_named(":", u16::from(action));
+    }
 
-// A refusal's number and index.
-pub fn put_refusal(out: &mut [u8; 4096], at: usize, why: Refusal, i: u16) -> usize
-    ensures { Put 19 out.old at (text.refusal_text (number_of why) i) result out.new }
-{
-    let named = put_named(out, at, b"refusal ", refusal_number(why) as u16);
-    let spaced = put_byte(out, named, b' ');
-    put_number(out, spaced, i)
+    // The hops of a hop buffer, four bytes each.
+    pub fn push_hops(&mut self, hops: &[u8])
+        ensures line { self.new ≡ put self.old (text.hops_in hops.now) }
+        ensures short { length (text.hops_in hops.now) ≤ 3 * length hops.now }
+    {
+        // Four bytes of the buffer at a time.
+        for hop in hops.chunks_exact(4) {
+            self.push_hop(le(hop, 0), hop[2]);
+        }
+    }
+
+    #[tactic(auto, using(crate::proofs::Putting::put_both), unfolding(crate::specs::Text::end_text))]
+    fn push_delivery(&mut self, i: u16, checked: bool)
+        ensures line { self.new ≡ put self.old (text.end_text (Delivered i checked)) }
+        ensures short { length (text.end_text (Delivered i checked)) ≤ 27 }
+    {
+        self.push_named("delivered ", i);
+        self.push_str(checked_word(checked));
+    }
+
+    #[tactic(auto, using(crate::proofs::Putting::put_both), unfolding(crate::specs::Text::end_text))]
+    fn push_violation(&mut self, letter: Letter, i: u16, aborts: bool)
+        ensures line { self.new ≡ put self.old (text.end_text (Violated letter i aborts)) }
+        ensures short { length (text.end_text (Violated letter i aborts)) ≤ 27 }
+    {
+        self.push_named("violation ", i);
+        self.push_str(" ");
+        self.push_byte(letter_of(letter));
+        self.push_str(abort_word(aborts));
+    }
+
+    // What a TLP comes to, and where.
+    #[tactic(auto, unfolding(crate::specs::Text::end_text))]
+    pub fn push_end(&mut self, end: Outcome)
+        ensures line { self.new ≡ put self.old (text.end_text end) }
+        ensures short { length (text.end_text end) ≤ 27 }
+    {
+        match end {
+            Outcome::Delivered(i, checked) => self.push_delivery(i, checked),
+            Outcome::Host => self.push_named("host ", COMPLEX),
+            Outcome::Unclaimed(i) => self.push_named("unclaimed ", i),
+            Outcome::Undefined(i) => self.push_named("undefined ", i),
+            Outcome::Violated(letter, i, aborts) => self.push_violation(letter, i, aborts),
+        }
+    }
+
+    // Mark, version, record count.
+    #[tactic(auto, using(crate::proofs::Putting::put_both), unfolding(crate::specs::Text::head_text))]
+    pub fn push_head(&mut self, s: &[u8])
+        requires { 8 ≤ length s.now }
+        ensures line { self.new ≡ put self.old (text.head_text s.now) }
+        ensures short { length (text.head_text s.now) ≤ 23 }
+    {
+        self.push_named("ACS ", le(s, 4));
+        self.push_named(" records ", le(s, 6));
+    }
+
+    // A refusal's number and index.
+    #[tactic(auto, using(crate::proofs::Putting::put_both), unfolding(crate::specs::Text::refusal_text))]
+    pub fn push_refusal(&mut self, why: Refusal, i: u16)
+        ensures line { self.new ≡ put self.old (text.refusal_text (number_of why) i) }
+        ensures short { length (text.refusal_text (number_of why) i) ≤ 19 }
+    {
+        self.push_named("refusal ", u16::from(u8::from(why)));
+        self.push_named(" ", i);
+    }
 }

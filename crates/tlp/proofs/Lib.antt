@@ -1,2 +1,2 @@
-pub mod Bytes
-pub mod Header
+pub mod BytesLaws
+pub mod HeaderLaws

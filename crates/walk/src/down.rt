@@ -1,55 +1,48 @@
 // Going down: no access control applies.
-ghost use Rattle.std.specs.Prelude.{◌≡◌, ◌+◌, ◌<◌, ◌≤◌};
+ghost use Rattle.std.specs.Prelude.{◌≡◌, ◌+◌, ◌≤◌};
 ghost use Rattle.rules.specs.Snapshot.{count};
-ghost use Rattle.rules.specs.Fabric.{shape_of};
 ghost use Rattle.rules.specs.Route as rule;
-ghost use Rattle.rules.specs.Accepted.{Accepted};
-ghost use Rattle.walk.specs.Hops.{puts};
-ghost use Rattle.walk.specs.Ways.{descent_from};
+ghost use Rattle.cover.specs.Asked.{shape};
+ghost use Rattle.walk.specs.Trails.{Descends};
 
-use crate::Descent;
-use crate::hops::put_hop;
-use port::actions::{DOWNWARD, ENDS_HERE};
+use crate::hops::Trail;
+use cover::Visit;
 use port::pass::next_down;
-use rules::{Down, Landing, Tlp};
+use rules::{Action, Down, Landing};
 
 // The node that a landing is at.
 fn lands_at(l: Landing) -> u16
     ensures { result ≡ rule.lands_at l }
 {
     match l {
-        Landing::Arrives(i) => i,
-        Landing::Nobody(i) => i,
+        Landing::Arrives(i) | Landing::Nobody(i) => i,
     }
 }
 
-// Down from port p, with its hops from number k on where the buffer has room. The records left above
-// the index fall at each call.
-pub fn go_down(s: &[u8], t: Tlp, p: u16, buffer: &mut [u8], k: usize) -> Descent
-    requires { Accepted s.now × ((p < count s.now) × (k ≤ count s.now + p + 1)) }
-    ensures value { result ≡ descent_from k (rule.down (shape_of s.now) t p) }
-    ensures buffer_after { buffer.new ≡ puts buffer.old k (rule.down (shape_of s.now) t p).hops }
+// Down from a port, with its hops put on the trail. The records left above the index fall at each
+// call.
+pub fn go_down(visit: Visit<'_>, trail: &mut Trail<'_>) -> Landing
+    requires { trail.old.hops ≤ count visit.query.bytes.now + visit.node + 1 }
+    ensures { let v = visit.entry in Descends (rule.down (shape v.query) v.query.tlp v.node) trail.old result trail.new }
 {
-    match next_down(s, t, p) {
+    match next_down(visit) {
         Down::Into(q) => {
-            put_hop(buffer, k, p, DOWNWARD);
-            go_down(s, t, q, buffer, k + 1)
+            trail.put(visit.node, Action::Downward);
+            // Written out: what `Query::at` says is equations, over which the laws of the walk don't close.
+            let below = Visit {
+                query: visit.query,
+                node: q,
+            };
+            go_down(below, trail)
         }
         Down::Lands(l) => {
-            let next = k + 1;
-            put_hop(buffer, k, p, DOWNWARD);
-            put_hop(buffer, next, lands_at(l), ENDS_HERE);
-            Descent {
-                landing: l,
-                hops: next + 1,
-            }
+            trail.put(visit.node, Action::Downward);
+            trail.put(lands_at(l), Action::EndsHere);
+            l
         }
         Down::Alone => {
-            put_hop(buffer, k, p, ENDS_HERE);
-            Descent {
-                landing: Landing::Nobody(p),
-                hops: k + 1,
-            }
+            trail.put(visit.node, Action::EndsHere);
+            Landing::Nobody(visit.node)
         }
     }
 }

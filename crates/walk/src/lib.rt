@@ -6,17 +6,11 @@ pub mod hops;
 mod up;
 pub mod way;
 
-use rules::{Landing, Outcome};
+use rules::Outcome;
 
-// Where a way down comes to, and the number of the hop that would follow.
-#[derive(Clone, Copy)]
-pub struct Descent {
-    pub landing: Landing,
-    pub hops: usize,
-}
-
-// What a TLP comes to, and the number of the hop that would follow: its hop count, of a whole way.
-#[derive(Clone, Copy)]
+// What a TLP comes to, and its hop count, by which the buffer is indexed; `rules::Ended` has it in the
+// 16 bits of the answer.
+#[derive(Clone, Copy, Debug, PartialEq, Eq)]
 pub struct Walked {
     pub end: Outcome,
     pub hops: usize,

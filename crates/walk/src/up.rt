@@ -1,22 +1,17 @@
 // Going up from port to port, and the reflection at the top.
-ghost use Rattle.std.specs.Prelude.{◌≡◌, ◌+◌, ◌≤◌};
-ghost use Rattle.rules.specs.Snapshot.{HasRecord, count, parent, validation_reflects};
-ghost use Rattle.rules.specs.Fabric.{shape_of, setting_of};
+ghost use Rattle.std.specs.Prelude.{◌≡◌, false, ◌+◌, ◌≤◌};
+ghost use Rattle.rules.specs.Snapshot.{count, kind, is_root};
 ghost use Rattle.rules.specs.Route as rule;
 ghost use Rattle.rules.specs.Properties.{IsPort};
-ghost use Rattle.rules.specs.Accepted.{Accepted};
-ghost use Rattle.walk.specs.Hops.{puts};
-ghost use Rattle.walk.specs.Ways.{walked_from, arrived_from};
+ghost use Rattle.cover.specs.Asked.{shape, setting};
+ghost use Rattle.walk.specs.Trails.{Walks};
 
 use crate::down::go_down;
-use crate::hops::put_hop;
-use crate::{Descent, Walked};
-use cover::entry_for;
-use layout::fields;
-use layout::fields::COMPLEX;
-use port::actions::{DIRECT_TO_PEER, ENDS_HERE, REFLECTED};
+use crate::hops::Trail;
+use cover::{Query, Visit};
+use layout::COMPLEX;
 use port::decide::decide;
-use rules::{Found, Landing, Move, Outcome, Tlp};
+use rules::{Action, Landing, Move, Outcome};
 
 // A landing as an outcome: a delivery is checked or not.
 fn landed(checked: bool, l: Landing) -> Outcome
@@ -28,83 +23,57 @@ fn landed(checked: bool, l: Landing) -> Outcome
     }
 }
 
-fn arrived(checked: bool, w: Descent) -> Walked
-    ensures { result ≡ arrived_from checked w }
-{
-    let l = w.landing;
-    Walked {
-        end: landed(checked, l),
-        hops: w.hops,
-    }
-}
-
 // Down the root port that covers it: the host's own TLP, or a reflected one, which is checked.
-pub fn from_top(s: &[u8], t: Tlp, checked: bool, buffer: &mut [u8], k: usize) -> Walked
-    requires { Accepted s.now × (k ≤ count s.now + 1) }
-    ensures value { result ≡ walked_from k (rule.from_top (shape_of s.now) t checked) }
-    ensures buffer_after { buffer.new ≡ puts buffer.old k (rule.from_top (shape_of s.now) t checked).hops }
+pub fn from_top(query: Query<'_>, checked: bool, trail: &mut Trail<'_>) -> Outcome
+    requires { trail.old.hops ≤ count query.bytes.now + 1 }
+    ensures { let q = query.entry in Walks (rule.from_top (shape q) q.tlp checked) trail.old result trail.new }
 {
-    match entry_for(s, t) {
-        Found::At(q) => arrived(checked, go_down(s, t, q, buffer, k)),
-        Found::Nothing => {
-            put_hop(buffer, k, COMPLEX, ENDS_HERE);
-            Walked {
-                end: Outcome::Unclaimed(COMPLEX),
-                hops: k + 1,
-            }
+    match query.entry() {
+        Some(node) => landed(checked, go_down(Visit { query, node }, trail)),
+        None => {
+            trail.put(COMPLEX, Action::EndsHere);
+            Outcome::Unclaimed(COMPLEX)
         }
     }
 }
 
-// The port above the parent of p.
-fn port_above(s: &[u8], p: u16) -> u16
-    requires { HasRecord s.now p × HasRecord s.now (parent s.now p) }
-    ensures { result ≡ rule.above (shape_of s.now) p }
+// The port above the parent.
+fn port_above(visit: Visit<'_>) -> u16
+    requires { is_root (kind visit.query.bytes.now visit.node) ≡ false }
+    ensures { let v = visit.entry in result ≡ rule.above (shape v.query) v.node }
 {
-    fields::parent(s, fields::parent(s, p))
+    visit.parent().record().parent()
 }
 
-// Up from port p, with its hops from number k on where the buffer has room. `reflects` is what
-// validation does with a request. The index falls at each turn.
-pub fn go_up(
-    s: &[u8],
-    reflects: bool,
-    t: Tlp,
-    mut p: u16,
-    buffer: &mut [u8],
-    mut k: usize,
-) -> Walked
-    requires { Accepted s.now × (IsPort s.now p × ((k + p ≤ count s.now) × (reflects ≡ validation_reflects s.now))) }
-    ensures value { result ≡ walked_from k (rule.up (shape_of s.now) (setting_of s.now) t p) }
-    ensures buffer_after { buffer.new ≡ puts buffer.old k (rule.up (shape_of s.now) (setting_of s.now) t p).hops }
+// Up from port p, with its hops put on the trail. A loop from port to port, by the decision at each:
+// the index falls at each turn. Visits are written out, as in `go_down`.
+pub fn go_up(query: Query<'_>, mut p: u16, trail: &mut Trail<'_>) -> Outcome
+    requires { IsPort query.bytes.now p × (trail.old.hops + p ≤ count query.bytes.now) }
+    ensures { let q = query.entry in Walks (rule.up (shape q) (setting q) q.tlp p) trail.old result trail.new }
 {
     loop {
-        let next = k + 1;
-        match decide(s, reflects, t, p) {
+        let visit = Visit { query, node: p };
+        match decide(visit) {
             Move::Up(action) => {
-                put_hop(buffer, k, p, action);
-                p = port_above(s, p);
-                k = next;
+                trail.put(p, action);
+                p = port_above(visit);
             }
-            Move::Across(q) => {
-                put_hop(buffer, k, p, DIRECT_TO_PEER);
-                return arrived(false, go_down(s, t, q, buffer, next));
+            Move::Across(node) => {
+                trail.put(p, Action::DirectToPeer);
+                return landed(false, go_down(Visit { query, node }, trail));
             }
             Move::Reflect => {
-                put_hop(buffer, k, p, REFLECTED);
-                return from_top(s, t, true, buffer, next);
+                trail.put(p, Action::Reflected);
+                return from_top(query, true, trail);
             }
             Move::Stop(end) => {
-                put_hop(buffer, k, p, ENDS_HERE);
-                return Walked { end, hops: next };
+                trail.put(p, Action::EndsHere);
+                return end;
             }
             Move::Beyond(end, node, action) => {
-                put_hop(buffer, k, p, action);
-                put_hop(buffer, next, node, ENDS_HERE);
-                return Walked {
-                    end,
-                    hops: next + 1,
-                };
+                trail.put(p, action);
+                trail.put(node, Action::EndsHere);
+                return end;
             }
         }
     }

@@ -4,4 +4,4 @@ use Rattle.rules.specs.Snapshot.{count}
 use Rattle.walk.proofs.down.+go_down.Given as goal
 
 abbrev pub decreases-go_down : goal.decreases-go_down
-decreases-go_down l = count l.s.now - l.p
+decreases-go_down l = count l.visit.query.bytes.now - l.visit.node
