@@ -12,7 +12,8 @@ use route::answer::route;
 use rules::{Ended, Extent, Outcome, Refused};
 use snapshot::check::check;
 
-// The eight bytes of the answer word, from the low one up: numbers, since this is what C is given.
+// The eight bytes of the answer word, from the low one up, as the sum that its definition is: numbers,
+// since this is what C is given.
 fn word(kind: u8, detail: u8, node: u16, count: u16, abort: u8) -> u64
     ensures { result ≡ word_of (fields kind detail node count abort) }
 {

@@ -18,7 +18,8 @@ fn query(input: &[u8]) -> bool {
     io::write_all(STDOUT, &text[..n])
 }
 
-// The slice that the arguments begin with, and what follows it.
+// The slice that the arguments begin with, and what follows it. (Of a `u32` no `usize` is made by
+// `From`.)
 fn next_slice(args: &[u8]) -> Option<(&[u8], &[u8])> {
     let (prefix, rest) = args.split_first_chunk::<4>()?;
     rest.split_at_checked(u32::from_le_bytes(*prefix) as usize)

@@ -8,6 +8,7 @@ fn put_byte(x: u8) -> bool {
     io::write_all(STDOUT, &text)
 }
 
+// Each byte is written, whatever became of those before it.
 fn put_bytes(bytes: &[u8]) -> bool {
     let mut ok = true;
     for &x in bytes {

@@ -15,7 +15,7 @@ pub struct Snapshot<'a> {
 
 const MARK: [u8; 3] = [b'A', b'C', b'S'];
 
-// The three-byte mark stands at the start.
+// The three-byte mark stands at the start: compared byte by byte on reading, as document 01 asks.
 pub fn has_mark(s: &[u8]) -> bool
     requires { 3 ≤ length s.now }
     ensures { result ≡ snapshot.marked s.now }

@@ -45,7 +45,7 @@ impl<'a> Header<'a> {
     fn doublewords(self) -> u16
         ensures { result ≡ rule.doublewords self.entry.bytes.now }
     {
-        let n = u16::from(self.bytes[2] % 4) * 256 + u16::from(self.bytes[3]);
+        let n = u16::from_be_bytes([self.bytes[2] % 4, self.bytes[3]]);
         if n == 0 { 1024 } else { n }
     }
 
