@@ -4,7 +4,8 @@ ghost use Rattle.rules.specs.Image as rule;
 
 use rules::{Bus, Buses, Extent};
 
-const IMAGE: usize = 4096;
+// The bytes of an image.
+pub const IMAGE: usize = 4096;
 
 // A whole configuration space image of a bridge.
 #[derive(Clone, Copy)]
@@ -35,13 +36,14 @@ impl<'a> Image<'a> {
             subordinate: Bus(self.bytes[0x1A]),
         }
     }
+}
 
-    // The part of the image that an ACS structure is.
-    pub fn part(self, acs: Extent) -> &'a [u8]
-        requires { acs.offset + acs.length ≤ rule.image_size }
-        ensures { result.now ≡ rule.part_of self.entry.bytes.now (Ok (Some acs)) }
-    {
-        let from = usize::from(acs.offset);
-        &self.bytes[from..from + usize::from(acs.length)]
-    }
+// The part of an image that an ACS structure is; the image may have any length in which the structure
+// ends.
+pub fn part(image: &[u8], acs: Extent) -> &[u8]
+    requires { acs.offset + acs.length ≤ length image.now }
+    ensures { result.now ≡ rule.part_of image.now (Ok (Some acs)) }
+{
+    let from = usize::from(acs.offset);
+    &image[from..from + usize::from(acs.length)]
 }

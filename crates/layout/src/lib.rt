@@ -6,6 +6,7 @@ pub mod acs;
 pub mod buses;
 pub mod fabric;
 pub mod kind;
+pub mod kinds;
 pub mod range;
 pub mod record;
 pub mod snapshot;

@@ -10,6 +10,7 @@ ghost use Rattle.layout.specs.Kind.{kind_of, is_kind};
 use crate::acs::Acs;
 use crate::buses::BusRange;
 use crate::kind::{Kind, UnknownKind};
+use crate::kinds::{is_bridge, is_port};
 use crate::{acs, range};
 use numbers::{LittleEndian, le};
 use rules::{Bus, PortNumber, Range};
@@ -68,21 +69,16 @@ impl<'a> Record<'a> {
         self.kind() == Ok(kind)
     }
 
-    // "Port" means kind 1 or 3.
     pub fn is_port(self) -> bool
         ensures { result ≡ snapshot.is_port (snapshot.kind self.entry.bytes.now self.entry.index) }
     {
-        matches!(self.kind(), Ok(Kind::Root | Kind::Downstream))
+        is_port(self.byte(0))
     }
 
-    // Bridges are kinds 1 to 3.
     pub fn is_bridge(self) -> bool
         ensures { result ≡ snapshot.is_bridge (snapshot.kind self.entry.bytes.now self.entry.index) }
     {
-        matches!(
-            self.kind(),
-            Ok(Kind::Root | Kind::Upstream | Kind::Downstream)
-        )
+        is_bridge(self.byte(0))
     }
 
     pub fn port_number(self) -> PortNumber

@@ -159,13 +159,17 @@ pub turned_span : (f l : ℕ) → (f ≤ l → ⊥) → false ≡ span_fine f l
 unfolding span_fine
 turned_span f l h = sym (rw (lt-leb f l (omega (arith, h))) refl)
 
-pub whole_span : (f l : ℕ) → l < 2 ^ 64 → (l - f + 1 < 2 ^ 64 → ⊥) → false ≡ span_fine f l
+pub whole_span : (f l : ℕ) → l - f ≡ 0xFFFF_FFFF_FFFF_FFFF → false ≡ span_fine f l
 unfolding span_fine
-whole_span f l fits h = sym (and_right_false (leb f l) (sized (l - f + 1) f) (whole (l - f + 1) f (omega (arith, h))))
+whole_span f l e = sym (and_right_false (leb f l) (sized (l - f + 1) f) (whole (l - f + 1) f (omega arith)))
+
+-- .. which is what a sum that does not fit says of two addresses
+pub wide_span : (f l : ℕ) → l < 2 ^ 64 → (l - f + 1 < 2 ^ 64 → ⊥) → false ≡ span_fine f l
+wide_span f l fits h = whole_span f l (omega (arith, h))
 
 pub sized_span : (f l n : ℕ) → f ≤ l → n ≡ l - f + 1 → sized n f ≡ span_fine f l
 unfolding span_fine
 sized_span f l n h e = rw (e, le-leb f l h)
 
 -- what `span_fine` comes to, at each of its returns
-pub ruleset spans = (turned_span, whole_span, sized_span)
+pub ruleset spans = (turned_span, wide_span, sized_span)

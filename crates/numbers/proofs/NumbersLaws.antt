@@ -3,21 +3,20 @@ use mathlib.Core.Path.{◌≡◌, refl, sym, ◌∙◌, ap}
 use mathlib.Core.Bool.{Bool, true, ◌&&◌}
 use mathlib.Core.List.{List, [], ◌∷◌, ◌++◌}
 use mathlib.Core.Logic.{⊎_elim}
-use Prim.Native.Nat.{ℕ, zero, suc, ◌+◌, ◌-◌, ◌≤◌, ◌<◌, zero-le}
+use Prim.Native.Nat.{ℕ, zero, suc, ◌+◌, ◌-◌, ◌^◌, ◌≤◌, ◌<◌, min}
 use native.Mathlib.Omega.{arith}
 use lib.Dec.{eqb}
-use lib.ListN.{length, take, drop, replicate}
-use borrow.Rule.Slice.PartMut.{put_mid}
+use lib.ListN.{length, set, length-set, take, drop}
+use lib.Seq.{sets}
 use Rattle.std.specs.Int.{w64, to_le_bytes}
 use Rattle.std.proofs.Math.Nat.{div-div-eq-div-mul}
 use Rattle.std.proofs.lemmas.Bool.{cases_lt}
-use Rattle.std.proofs.lemmas.List.{take_rest, take_all, drop_all, drop_more, length-take, length-take-le, length-drop, length-replicate, length_push}
+use Rattle.std.proofs.lemmas.List.{take_rest, length-take-le, length-drop, length_push}
 use Rattle.std.proofs.lemmas.List.{get_or-take, get_or-drop, get_or_append_left, get_or_past, get_or_push}
 use Rattle.rules.specs.Below.{all_below}
 use Rattle.rules.specs.Bytes.{byte, le, le_bytes, bytes_from, laid}
 use Rattle.rules.specs.Records.{zeros}
 use Rattle.rules.proofs.Loops.{all_none, all_turn}
-use Rattle.numbers.proofs.Laid.{put_laid, length_laid, laid_both}
 
 -- a number reads the same in what is left of a buffer
 le_rest : (s : List ℕ) (at w i : ℕ) → le w (drop at s) i ≡ le w s (at + i)
@@ -32,40 +31,46 @@ pub eight_bytes : (x : ℕ) → to_le_bytes w64 x ≡ le_bytes 8 x
 unfolding le_bytes
 eight_bytes x = simp div-div-eq-div-mul
 
--- what is there of the n bytes, and zeros for the others
-bytes_filled : (n : ℕ) (s : List ℕ) (i : ℕ) → bytes_from n s i ≡ take n (drop i s) ++ replicate (n - length (take n (drop i s))) 0
-unfolding bytes_from
-bytes_filled zero s i = refl
-bytes_filled (suc n) s i = ⊎_elim (within (bytes_filled n s (i + 1))) (past (bytes_filled n s (i + 1))) (cases_lt i (length s))
-  where
-    within : bytes_from n s (i + 1) ≡ take n (drop (i + 1) s) ++ replicate (n - length (take n (drop (i + 1) s))) 0 → i < length s
-        → bytes_from (suc n) s i ≡ take (suc n) (drop i s) ++ replicate (suc n - length (take (suc n) (drop i s))) 0
-    within ih l =
-        let e : suc n - suc (length (take n (drop (i + 1) s))) ≡ n - length (take n (drop (i + 1) s)) = omega arith in
-        rw (drop_more s i 0 l, e, ih)
+-- one byte is laid
+one_laid : (b : List ℕ) (at k v : ℕ) (l : List ℕ) → sets b (at + k) (v ∷ l) ≡ sets (set b (at + k) v) (at + (k + 1)) l
+one_laid b at k v l = let e : at + (k + 1) ≡ suc (at + k) = omega arith in rw e
 
-    past : bytes_from n s (i + 1) ≡ take n (drop (i + 1) s) ++ replicate (n - length (take n (drop (i + 1) s))) 0 → length s ≤ i
-        → bytes_from (suc n) s i ≡ take (suc n) (drop i s) ++ replicate (suc n - length (take (suc n) (drop i s))) 0
-    past ih l =
-        let m : n - 0 ≡ n = omega arith in
-        let k : suc n - 0 ≡ suc n = omega arith in
-        rw (get_or_past s i 0 l, drop_all i s l, ih, drop_all (i + 1) s (omega arith), take_all n [] zero-le, m, k)
+-- The first k of n bytes of s are copied, and the rest is owed.
+pub record Copied (b₀ : List ℕ) (at n : ℕ) (s : List ℕ) (from : ℕ) (b : List ℕ) (k : ℕ) : Type 0 where
+  pub upto : k ≤ n
+  pub size : length b ≡ length b₀
+  pub owes : laid b (at + k) (bytes_from (n - k) s (from + k)) ≡ laid b₀ at (bytes_from n s from)
 
--- .. laid in and then filled up
-pub fill_laid : (b c s g zs : List ℕ) (at n from : ℕ) → c ≡ laid b at g → g ≡ take n (drop from s) → at + n ≤ length b
-    → zs ≡ replicate (length (take (at + n - (at + length g)) (drop (at + length g) c))) 0
-    → put_mid (at + length g) (at + n - (at + length g)) c zs ≡ laid b at (bytes_from n s from)
-fill_laid b c s g zs at n from laying e room fills =
-    let fits : length g ≤ n = rw e (omega (arith, length-take n (drop from s))) in
-    let same : length c ≡ length b = rw laying (length_laid b at g (omega arith)) in
-    let size : length (take (at + n - (at + length g)) (drop (at + length g) c)) ≡ n - length g =
-    length-take-le (at + n - (at + length g)) (drop (at + length g) c) (simp (length-drop, same) (omega arith)) ∙ omega arith in
-    let filled : zs ≡ replicate (n - length g) 0 = fills ∙ ap (λ (m : ℕ). replicate m 0) size in
-    let long : length zs ≡ n - length g = ap length filled ∙ length-replicate (n - length g) 0 in
-    put_laid c (at + length g) (at + n - (at + length g)) zs (omega arith) (omega arith)
-    ∙ ap (λ (l : List ℕ). laid l (at + length g) zs) laying
-    ∙ laid_both g zs b at
-    ∙ ap (laid b at) (ap (λ (l : List ℕ). g ++ l) filled ∙ sym (bytes_filled n s from ∙ rw e))
+pub copy_begin : (b₀ : List ℕ) (at n : ℕ) (s : List ℕ) (from : ℕ) → Copied b₀ at n s from b₀ 0
+copy_begin b₀ at n s from =
+    let e : at + 0 ≡ at = omega arith in
+    let f : from + 0 ≡ from = omega arith in
+    let g : n - 0 ≡ n = omega arith in record { upto = omega arith; size = refl; owes = rw (e, f, g) }
+
+module _ {b₀ b s : List ℕ} {at n from k : ℕ} (c : Copied b₀ at n s from b k) where
+  pub copy_turn : {v : ℕ} → k < n → v ≡ byte s (from + k) → Copied b₀ at n s from (set b (at + k) v) (k + 1)
+  unfolding laid bytes_from
+  copy_turn l e =
+      let m : n - k ≡ suc (n - (k + 1)) = omega arith in
+      let f : from + (k + 1) ≡ from + k + 1 = omega arith in
+      record {
+        upto = omega arith;
+        size = length-set b (at + k) _ ∙ c.size;
+        owes = rw (e, f) (sym (one_laid b at k (byte s (from + k)) (bytes_from (n - (k + 1)) s (from + k + 1)))
+            ∙ ap (λ (j : ℕ). sets b (at + k) (bytes_from j s (from + k))) (sym m) ∙ c.owes);
+      }
+
+  pub copy_end : n ≤ k → b ≡ laid b₀ at (bytes_from n s from)
+  unfolding laid bytes_from
+  copy_end l = let e : 0 ≡ n - k = omega arith in ap (λ (j : ℕ). sets b (at + k) (bytes_from j s (from + k))) e ∙ c.owes
+
+-- a byte at a place that fits no number is past the end, at the largest number too
+pub byte_past : (s : List ℕ) (i : ℕ) {m : ℕ} → m ≡ min i (2 ^ 64 - 1) → length s < 2 ^ 64 → byte s m ≡ byte s i
+byte_past s i {m} e l =
+    ⊎_elim
+    (λ h. let f : m ≡ i = omega arith in rw f)
+    (λ h. get_or_past s m 0 (omega arith) ∙ sym (get_or_past s i 0 (omega arith)))
+    (cases_lt i (2 ^ 64 - 1))
 
 -- one test for another
 all_same : (f g : ℕ → Bool) (n : ℕ) → ((j : ℕ) → j < n → f j ≡ g j) → all_below n f ≡ all_below n g

@@ -1,6 +1,6 @@
 // Numbers in bytes, read and written; bytes copied, and runs of zero bytes.
-ghost use Rattle.std.specs.Prelude.{◌≡◌, ◌+◌, ◌≤◌, length, ℕ, take, drop};
-ghost use Rattle.rules.specs.Bytes.{le, le_bytes, bytes_from, laid};
+ghost use Rattle.std.specs.Prelude.{◌≡◌, ◌+◌, ◌≤◌, length, ℕ};
+ghost use Rattle.rules.specs.Bytes.{byte, le, le_bytes, bytes_from, laid};
 ghost use Rattle.rules.specs.Records.{zeros};
 
 // A number that `width` bytes write, the lowest first.
@@ -72,23 +72,23 @@ pub fn put_le_u64(b: &mut [u8], at: usize, x: u64)
     put(b, at, &x.to_le_bytes());
 }
 
-// What is there of the n bytes from `from` on.
-fn part(s: &[u8], from: usize, n: usize) -> &[u8]
-    ensures { result.now ≡ take n (drop from s.now) }
+// The byte at `at`, and 0 past the end.
+fn byte_or_0(s: &[u8], at: usize) -> u8
+    ensures { result ≡ byte s.now at }
 {
-    let rest = &s[from.min(s.len())..];
-    &rest[..n.min(rest.len())]
+    if at < s.len() { s[at] } else { 0 }
 }
 
-// Copies n bytes of `s` from `from` on to the place `at` of b; past the end of s they are 0.
-#[tactic(auto, using(crate::proofs::NumbersLaws::fill_laid))]
+// Copies n bytes of `s` from `from` on to the place `at` of b; past the end of s they are 0. One by one, by
+// a number that counts them: a run whose length is known only when it runs is copied or filled by a call of
+// C's `memmove` or `memset`, and takes longer. A place that fits no number is past every end.
 pub fn put_bytes(b: &mut [u8], at: usize, n: usize, s: &[u8], from: usize)
     requires { at + n ≤ length b.old }
     ensures { b.new ≡ laid b.old at (bytes_from n s.now from) }
 {
-    let given = part(s, from, n);
-    put(b, at, given);
-    b[at + given.len()..at + n].fill(0);
+    for k in 0..n {
+        b[at + k] = byte_or_0(s, from.saturating_add(k));
+    }
 }
 
 // The n bytes from `at` on are zero. Each of them is looked at, since wide loads beat an early exit.

@@ -4,12 +4,7 @@ use mathlib.Core.Bool.{Bool, true, false}
 use Rattle.rules.specs.declared.Handling.{Handling}
 use Rattle.rules.specs.declared.Handling.TheVariants.{Direct, Redirect, Violation}
 use Rattle.rules.specs.Decide.{handling}
-
--- held: blocked or redirected
-abbrev pub held : Handling → Bool
-held Direct = false
-held Redirect = true
-held Violation = true
+use Rattle.port.specs.Held.{held}
 
 -- with E the vector bit decides whether a request is held
 pub bit_decides : {e x : Bool} (r b : Bool) → e ≡ true → x ≡ b → held (handling e r b) ≡ x

@@ -1,5 +1,5 @@
 -- Tests taken apart and put together: eliminators of `cond`, `among` and the Boolean operators.
-use mathlib.Core.Path.{◌≡◌, refl, sym}
+use mathlib.Core.Path.{◌≡◌, refl, sym, ◌∙◌, ap}
 use mathlib.Core.Bool.{Bool, true, false, cond, ◌&&◌, ◌||◌, not}
 use Prim.Native.Nat.{ℕ}
 use native.Mathlib.Nat.{le_trans}
@@ -78,6 +78,13 @@ implies {a} h n = either a (λ p. contradiction (h p) n) (λ q. q)
 pub same_test : (a b : Bool) → (a ≡ true → b ≡ true) → (b ≡ true → a ≡ true) → a ≡ b
 same_test true b f g = sym (f refl)
 same_test false b f g = sym (implies g refl)
+
+-- an `if` whose else is false is a conjunction
+pub then_and : {x a b r : Bool} → x ≡ a → x ≡ true → r ≡ b → r ≡ (a && b)
+then_and {x} {a} {b} {r} e t h = h ∙ sym (ap (λ (z : Bool). z && b) (sym e ∙ t))
+
+pub else_and : {x a : Bool} (b : Bool) → x ≡ a → x ≡ false → false ≡ (a && b)
+else_and b e f = sym (ap (λ (z : Bool). z && b) (sym e ∙ f))
 
 pub leb_trans : (a b c : ℕ) → leb a b ≡ true → leb b c ≡ true → leb a c ≡ true
 leb_trans a b c p q = le-leb a c (le_trans (leb-true a b p) (leb-true b c q))

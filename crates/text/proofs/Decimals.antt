@@ -1,13 +1,33 @@
 -- The decimal digits of a number are those that the library prints.
 use mathlib.Core.Path.{◌≡◌, sym}
-use mathlib.Core.List.{List, ◌++◌}
-use Prim.Native.Nat.{ℕ, suc, ◌+◌, ◌^◌, ◌≤◌, ◌<◌}
+use mathlib.Core.List.{List, [], ◌∷◌, ◌++◌}
+use Prim.Native.Nat.{ℕ, zero, suc, ◌+◌, ◌/◌, ◌%◌, ◌^◌, ◌≤◌, ◌<◌}
 use native.Mathlib.Omega.{arith}
 use lib.ListN.{length, length-append}
-use borrow.Author.Tests.{lt-ltb, le-ltb}
+use lib.Dec.{ltb}
+use borrow.Author.Tests.{lt-ltb, le-ltb, ltb-false}
 use Rattle.std.specs.Fmt as printed
 use Rattle.std.proofs.lemmas.Fmt.{AppendsLastDigit, decimal_from_appends, length-decimal-le_succ, length-decimal-le}
-use Rattle.text.specs.Text.{decimal, number}
+use Rattle.rules.proofs.Logic.{either}
+use Rattle.text.specs.Text.{digit, decimal, number}
+
+-- enough fuel is enough
+enough : (f g n : ℕ) → n < f → n < g → decimal f n ≡ decimal g n
+unfolding decimal
+enough zero g n l r = absurd (omega arith)
+enough (suc f) zero n l r = absurd (omega arith)
+enough (suc f) (suc g) n l r =
+    either (ltb n 10)
+    (λ p. rw (p))
+    (λ q. let h : 10 ≤ n = ltb-false n 10 q in rw (q, enough f g (n / 10) (omega arith) (omega arith)))
+
+pub number_digit : (n : ℕ) → n < 10 → number n ≡ digit n ∷ []
+unfolding number decimal
+number_digit n l = rw (lt-ltb n 10 l)
+
+pub number_more : (n : ℕ) → 10 ≤ n → number n ≡ number (n / 10) ++ (digit (n % 10) ∷ [])
+unfolding number decimal
+number_more n l = rw (le-ltb n 10 l, enough n (suc (n / 10)) (n / 10) (omega arith) (omega arith))
 
 appends : AppendsLastDigit decimal
 unfolding decimal

@@ -3,5 +3,6 @@
 
 mod buffer;
 mod lines;
+pub mod put;
 
 pub use buffer::Text;

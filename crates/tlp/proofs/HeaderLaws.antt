@@ -1,8 +1,8 @@
 -- What the tests of a header say, case by case: its form, its target, and whether it is fine.
 use mathlib.Core.Path.{◌≡◌, refl}
-use mathlib.Core.Bool.{Bool, false, ◌||◌, not}
+use mathlib.Core.Bool.{Bool, true, false, cond, ◌||◌, not}
 use mathlib.Core.List.{List, [], ◌∷◌}
-use Prim.Native.Nat.{ℕ}
+use Prim.Native.Nat.{ℕ, ◌≤◌, ◌<◌}
 use native.Mathlib.Omega.{arith}
 use borrow.Author.Tests.{eq-eqb, ne_eqb}
 use lib.ListN.{length}
@@ -12,7 +12,7 @@ use Rattle.std.specs.Prelude.{Some, None, Err}
 use Rattle.rules.specs.declared.Target.{Target}
 use Rattle.rules.specs.declared.Tlp.{Tlp}
 use Rattle.rules.specs.Bytes.{byte}
-use Rattle.rules.specs.Tlp.{is_read, is_request, is_completion, relaxed, address_type, requester_bus, header_length}
+use Rattle.rules.specs.Tlp.{is_read, is_request, is_completion, is_long, relaxed, address_type, requester_bus, header_length}
 use Rattle.rules.specs.Tlp.{crosses, header_fine, target_of, tlp_of}
 use Rattle.rules.proofs.Logic.{either, and_right_false}
 use Rattle.tlp.specs.declared.form.Form.{Form}
@@ -35,6 +35,21 @@ unfolding header_read header_fine
 no_form h {b} p e =
     let n : (is_completion b ≡ false) × (is_request b ≡ false) = neither b e in
     rw (← p, n.0, n.1, and_right_false (eqb (length h) (header_length b)) false refl)
+
+-- .. and what a header is refused for, whatever its first byte is: its length
+pub header_twelve : (form : ℕ) → 12 ≤ header_length form
+header_twelve form = go (is_long form)
+  where
+    go : (long : Bool) → 12 ≤ cond long 16 12
+    go true = omega arith
+    go false = omega arith
+
+pub read_misfit : (h : List ℕ) {n : ℕ} → n ≡ header_length (byte h 0) → (length h ≡ n → ⊥) → None ≡ header_read h
+unfolding header_read header_fine
+read_misfit h e d = rw (← e, ne_eqb _ _ d)
+
+pub read_short : (h : List ℕ) → length h < 12 → None ≡ header_read h
+read_short h l = read_misfit h refl (λ e. omega (arith, l, e, header_twelve (byte h 0)))
 
 -- the TLP of a header, of its form's answers and its target
 abbrev tlp_with : List ℕ → Bool → Bool → Target → Tlp

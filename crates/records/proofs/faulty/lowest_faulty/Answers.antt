@@ -20,5 +20,7 @@ find-requires-clause-callable c =
 pub returns : goal.returns
 unfolding lowest_faulty faulty
 returns c =
+    let found : c.find.result ≡ lowest_faulty c.args.s.bytes.now =
     find_from_range _ c.find.ensures.ran refl (search rules)
-    ∙ find_all (faulty c.args.s.bytes.now) _ (count c.args.s.bytes.now) c.count.ensures
+    ∙ find_all (faulty c.args.s.bytes.now) _ (count c.args.s.bytes.now) c.count.ensures in
+    grind (arith, found)

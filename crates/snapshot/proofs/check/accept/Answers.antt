@@ -1,6 +1,6 @@
-use Rattle.std.proofs.Common.{◌∙◌}
-use Rattle.rules.proofs.Accepted.{accepted}
+use Rattle.std.proofs.Common.{◌∙◌, Ok, sym, refl}
 use Rattle.snapshot.proofs.CheckLaws.{ends_short, ends_in_header, ends_at_record, ends_accepted, records_there, missing, refuses_as, refuses_record}
+use Rattle.snapshot.proofs.CheckLaws.{check_accepts}
 use Rattle.snapshot.proofs.check.accept.Goals as goal
 
 pub returns-in_err-snapshot-clause-refused : goal.returns-in_err-snapshot-clause-refused
@@ -31,7 +31,8 @@ invariant_of-result c =
     let same = rw c.in_ok-snapshot.ensures.ok_part at c.begun.ensures.bytes in
     let begins = c.in_ok-snapshot.ensures.variant ∙ c.begun.ensures.begun in
     let faultless = c.in_ok-require_faultless.ensures.passes in
-    record { accepted = accepted c.args.bytes.now c.args.time (ends_accepted same c.args.time begins c.in_ok-check_header.ensures faultless) }
+    let verdict = ends_accepted same c.args.time begins c.in_ok-check_header.ensures faultless in
+    record { accepted = check_accepts c.args.time {r = Ok tt} (sym verdict) refl }
 
 pub returns-clause-accepted : goal.returns-clause-accepted
 returns-clause-accepted c =
